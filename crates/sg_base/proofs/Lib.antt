@@ -1,0 +1,11 @@
+pub mod Bits
+pub mod Chaining
+pub mod Edges
+pub mod Ends
+pub mod Entries
+pub mod Finite
+pub mod Growing
+pub mod Rising
+pub mod Rows
+pub mod Scopes
+pub mod Searching
