@@ -1,0 +1,46 @@
+//! Giving the value back.
+ghost use Rattle.std.specs.Prelude.{◌≡◌, ℕ, [], ◌∷◌, Some, None};
+ghost use Rattle.sg_turn.specs.declared.stage.Stage.TheVariants.{Inside};
+ghost use Rattle.sg_turn.specs.Steps.{Gives, Ends};
+ghost use Rattle.sg_turn.specs.Turn.{IsSized, IsSame};
+
+use crate::in_turn::{InTurn, Origin};
+use crate::steps::Serve;
+use crate::storied::Storied;
+use crate::view::View;
+use atomic_table::{Seat, Shared};
+
+/// Gives the value back, and serves the next ticket.
+pub(crate) fn give<V: Storied>(
+    shared: &Shared<Option<V>, View<V::Entry, V::Root>, Origin<V>, InTurn<V>>,
+    seat: &mut Seat<Option<V>, View<V::Entry, V::Root>>,
+    value: V,
+)
+    requires table { (seat.old.table_id ≡ shared.now.table_id) × IsSized shared.now.table_id }
+    requires inside { ((t : ℕ) × (seat.old.me.0.stage ≡ Inside t)) × (seat.old.me.1 ≡ (0, None) ∷ []) }
+    requires root { seat.old.me.0.root ≡ Some (V.root value) }
+    requires gives { Gives V.entries V.teller seat.old.me.0 value }
+    ensures seat { IsSame seat.old seat.new × (seat.new.me.1 ≡ []) }
+    ensures view { Ends seat.old.me.0 (V.entries value) seat.new.me.0 }
+{
+    let found = shared.exchange(seat, 0, Some(value));
+    let None = found else { unreachable!() };
+    let served = shared.fetch_add::<Serve<V>>(seat, 1, 1);
+    wake_waiting::<V>(shared, served);
+}
+
+/// Wakes all that park, where somebody may wait for a ticket. The ticket behind `served` is served now.
+///
+/// No wake-up is lost. Where `next` is that ticket, nobody has drawn it: who draws it later looks at `serving` after
+/// it moved on, and finds it served. Else its holder is woken if it parks, or finds `serving` changed where it is about
+/// to. All are woken, since a wake of one may reach the holder of a later ticket, who would park again.
+fn wake_waiting<V: Storied>(
+    shared: &Shared<Option<V>, View<V::Entry, V::Root>, Origin<V>, InTurn<V>>,
+    served: u64,
+)
+    requires { IsSized shared.now.table_id }
+{
+    if shared.peek(0) != served.wrapping_add(1) {
+        shared.wake_all(1);
+    }
+}
