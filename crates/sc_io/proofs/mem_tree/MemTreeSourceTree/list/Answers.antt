@@ -1,0 +1,4 @@
+use Rattle.sc_io.proofs.mem_tree.MemTreeSourceTree.list.Goals as goal
+
+pub returns-clause-listed : goal.returns-clause-listed
+returns-clause-listed c = rw (← c.self.view_is) c.in_ok-java_paths.ensures

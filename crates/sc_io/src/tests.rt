@@ -1,0 +1,264 @@
+ghost use Rattle.std.specs.Prelude.{◌≡◌, [], ◌∷◌, IfOk, codes, map};
+ghost use Rattle.sc_io.specs.FileList.{files_of};
+ghost use Rattle.sc_io.specs.SourceTree.{HasDistinctPaths};
+
+use crate::{
+    Content, DirTree, MemSink, MemTree, PlainSink, PlainTree, Sink, SinkFault, SourceTree, StdSink,
+    TreeFault,
+};
+use std::alloc::{AllocError, Global};
+use std::cell::Cell;
+use std::fmt::Display;
+use std::fs::Permissions;
+use std::os::unix::fs::{PermissionsExt, symlink};
+use std::rt::Files;
+use std::test::Fail;
+use std::{env, fs, io, process};
+
+fn three_files(alloc: Global) -> Result<Vec<(String, Vec<u8>)>, AllocError>
+    ensures distinct { IfOk result (λ files. HasDistinctPaths (files_of files.items)) }
+    ensures paths { IfOk result (λ files. map (λ f. f.path) (files_of files.items)
+        ≡ codes "A.java" ∷ codes "notes.txt" ∷ codes "b/B.java" ∷ []) }
+{
+    let mut files = Vec::new(alloc);
+    files.push((
+        String::from_str(alloc, "A.java")?,
+        b"class A {}".to_vec(alloc)?,
+    ))?;
+    files.push((
+        String::from_str(alloc, "notes.txt")?,
+        b"some notes".to_vec(alloc)?,
+    ))?;
+    files.push((
+        String::from_str(alloc, "b/B.java")?,
+        b"class B {}".to_vec(alloc)?,
+    ))?;
+    Ok(files)
+}
+
+fn mark<T: Drop>(answer: Result<T, TreeFault>) -> char {
+    match answer {
+        Ok(_) => '.',
+        Err(TreeFault::Failed) => 'F',
+        Err(TreeFault::OutOfMemory) => 'M',
+    }
+}
+
+fn put_mark(answer: Result<(), SinkFault>) -> char {
+    match answer {
+        Ok(()) => '.',
+        Err(SinkFault::Failed) => 'F',
+        Err(SinkFault::OutOfMemory) => 'M',
+    }
+}
+
+// The paths in order, each with a space behind it.
+fn listed(alloc: Global, mut paths: Vec<String>) -> Result<String, AllocError> {
+    paths.sort()?;
+    let mut text = String::new(alloc);
+    for path in &paths {
+        text.push_str(path.as_str())?;
+        text.push(' ')?;
+    }
+    Ok(text)
+}
+
+fn shown(alloc: Global, content: Content) -> Result<String, AllocError> {
+    match content {
+        Content::Whole(bytes) => String::from_utf8_lossy(alloc, bytes.as_slice()),
+        Content::TooLong => String::from_str(alloc, "too long"),
+    }
+}
+
+#[test]
+fn chosen_calls_fail(rt: HostRuntime) -> Result<(), Fail> {
+    let alloc = rt.alloc();
+    for (failing, want) in [
+        (0, "F..."),
+        (1, ".F.."),
+        (2, "..F."),
+        (3, "...F"),
+        (4, "...."),
+    ] {
+        let mut tree = MemTree::new(three_files(alloc)?, vec![in alloc; failing]?);
+        let mut seen = String::new(alloc);
+        seen.push(mark(tree.list(alloc)))?;
+        seen.push(mark(tree.read(alloc, "A.java", 10)))?;
+        seen.push(mark(tree.read(alloc, "b/B.java", 10)))?;
+        seen.push(mark(tree.list(alloc)))?;
+        assert_eq!(rt; seen.as_str(), want);
+    }
+    Ok(())
+}
+
+#[test]
+fn plain_tree_lists_and_reads(rt: HostRuntime) -> Result<(), Fail> {
+    let alloc = rt.alloc();
+    let mut tree = PlainTree::new(three_files(alloc)?);
+    let paths = tree.list(alloc)?;
+    assert_eq!(rt; listed(alloc, paths)?.as_str(), "A.java b/B.java ");
+    for (limit, want) in [(9, "too long"), (10, "class B {}")] {
+        let mut tree = PlainTree::new(three_files(alloc)?);
+        let content = tree.read(alloc, "b/B.java", limit)?;
+        assert_eq!(rt; shown(alloc, content)?.as_str(), want);
+    }
+    Ok(())
+}
+
+#[test]
+fn sinks_take_what_fits(rt: HostRuntime) -> Result<(), Fail> {
+    let alloc = rt.alloc();
+    let mut plain = PlainSink::new(alloc);
+    plain.put(b"two ")?;
+    plain.put(b"pieces")?;
+    assert_eq!(rt; plain.taken(), b"two pieces".as_slice());
+    let rows = [
+        (0, "F", ""),
+        (1, "F", "h"),
+        (2, "F", "he"),
+        (3, "F", "hel"),
+        (4, "F", "hell"),
+        (5, ".", "hello"),
+    ];
+    for (room, want, written) in rows {
+        let mut sink = MemSink::new(alloc, Some(room));
+        let mut seen = String::new(alloc);
+        seen.push(put_mark(sink.put(b"hello")))?;
+        assert_eq!(rt; seen.as_str(), want);
+        assert_eq!(rt; sink.taken(), written.as_bytes());
+    }
+    Ok(())
+}
+
+// A fresh folder for one test.
+fn fresh_folder(rt: &HostRuntime, name: &str) -> io::Result<String> {
+    let temp = env::temp_dir(rt)?;
+    let id = process::id(rt.process());
+    let folder = format!(in rt.alloc(); "{}/sc_io_{id}_{name}", temp.as_str())?;
+    let _ = fs::remove_dir_all(rt, folder.as_str());
+    fs::create_dir_all(rt, folder.as_str())?;
+    Ok(folder)
+}
+
+fn below(alloc: Global, folder: &str, name: &str) -> Result<String, AllocError> {
+    format!(in alloc; "{folder}/{name}")
+}
+
+#[test]
+fn walks_the_file_system(rt: HostRuntime) -> Result<(), Fail> {
+    let alloc = rt.alloc();
+    let folder = fresh_folder(&rt, "walks")?;
+    let root = folder.as_str();
+    fs::create_dir_all(&rt, below(alloc, root, "a/b.java")?)?;
+    fs::write(&rt, below(alloc, root, "A.java")?, "class A {}")?;
+    fs::write(&rt, below(alloc, root, "a/b.java/C.java")?, "class C {}")?;
+    fs::write(&rt, below(alloc, root, "a/notes.txt")?, "some notes")?;
+    symlink(&rt, "A.java", below(alloc, root, "L.java")?)?;
+    symlink(&rt, "a", below(alloc, root, "z")?)?;
+    symlink(&rt, "nothing", below(alloc, root, "N.java")?)?;
+    let mut tree = DirTree::new(rt, folder.clone()?);
+    let paths = tree.list(alloc)?;
+    assert_eq!(rt;
+        listed(alloc, paths)?.as_str(),
+        "A.java L.java a/b.java/C.java z/b.java/C.java "
+    );
+    for (path, limit, want) in [
+        ("L.java", 10, "class A {}"),
+        ("a/b.java/C.java", 9, "too long"),
+    ] {
+        let content = tree.read(alloc, path, limit)?;
+        assert_eq!(rt; shown(alloc, content)?.as_str(), want);
+    }
+    assert_eq!(rt; mark(tree.read(alloc, "missing.java", 10)), 'F');
+    fs::remove_dir_all(&rt, root)?;
+    Ok(())
+}
+
+// A folder with so many levels of folders, the root among them, with a source in the innermost.
+fn nested(rt: &HostRuntime, levels: u32) -> io::Result<String> {
+    let alloc = rt.alloc();
+    let folder = fresh_folder(rt, "nested")?;
+    let mut inner = folder.clone()?;
+    for _ in 1..levels {
+        inner.push_str("/d")?;
+    }
+    fs::create_dir_all(rt, inner.as_str())?;
+    fs::write(rt, below(alloc, inner.as_str(), "A.java")?, "class A {}")?;
+    Ok(folder)
+}
+
+#[test]
+fn walks_64_levels(rt: HostRuntime) -> Result<(), Fail> {
+    let alloc = rt.alloc();
+    for (levels, want) in [(64, '.'), (65, 'F')] {
+        let folder = nested(&rt, levels)?;
+        let mut tree = DirTree::new(rt, folder.clone()?);
+        assert_eq!(rt; mark(tree.list(alloc)), want);
+        fs::remove_dir_all(&rt, folder.as_str())?;
+    }
+    Ok(())
+}
+
+#[test]
+fn refuses_what_the_system_refuses(rt: HostRuntime) -> Result<(), Fail> {
+    let alloc = rt.alloc();
+    let folder = fresh_folder(&rt, "refused")?;
+    let root = folder.as_str();
+    let mut missing = DirTree::new(rt, below(alloc, root, "missing")?);
+    assert_eq!(rt; mark(missing.list(alloc)), 'F');
+    symlink(&rt, ".", below(alloc, root, "loop")?)?;
+    let mut tree = DirTree::new(rt, folder.clone()?);
+    assert_eq!(rt; mark(tree.list(alloc)), 'F');
+    fs::remove_file(&rt, below(alloc, root, "loop")?)?;
+    assert_eq!(rt; mark(tree.list(alloc)), '.');
+    let locked = below(alloc, root, "locked")?;
+    fs::create_dir(&rt, locked.as_str())?;
+    rt.set_permissions(locked.as_str(), Permissions::from_mode(0))?;
+    // Root may read every folder.
+    if fs::read_dir(&rt, locked.as_str()).is_err() {
+        assert_eq!(rt; mark(tree.list(alloc)), 'F');
+    }
+    rt.set_permissions(locked.as_str(), Permissions::from_mode(0o700))?;
+    fs::remove_dir_all(&rt, root)?;
+    Ok(())
+}
+
+// Takes two bytes at a time, and nothing once its room is used up.
+#[derive(Drop)]
+struct Narrow<'a> {
+    room: &'a Cell<usize>,
+}
+
+impl Print for Narrow<'_> {
+    fn print<D: Display + Drop>(&self, _value: D) -> io::Result<()> {
+        Err(io::Error::from(io::ErrorKind::Unsupported))
+    }
+
+    fn println<D: Display + Drop>(&self, _value: D) -> io::Result<()> {
+        Err(io::Error::from(io::ErrorKind::Unsupported))
+    }
+
+    fn write_all(&self, _bytes: &[u8]) -> io::Result<()> {
+        Err(io::Error::from(io::ErrorKind::Unsupported))
+    }
+
+    fn write_some(&self, bytes: &[u8]) -> io::Result<usize> {
+        let room = self.room.get();
+        let count = bytes.len().min(2).min(room);
+        self.room.set(room - count);
+        Ok(count)
+    }
+}
+
+#[test]
+fn writes_pieces_out(rt: HostRuntime) -> Result<(), Fail> {
+    let mut sink = StdSink::new(rt);
+    assert_eq!(rt; put_mark(sink.put(b"a line\n")), '.');
+    let room = Cell::new(5);
+    let mut narrow = StdSink::new(Narrow { room: &room });
+    assert_eq!(rt; put_mark(narrow.put(b"abc")), '.');
+    assert_eq!(rt; put_mark(narrow.put(b"def")), 'F');
+    assert_eq!(rt; put_mark(narrow.put(b"")), '.');
+    assert_eq!(rt; room.get(), 0);
+    Ok(())
+}
