@@ -1,5 +1,5 @@
 -- Looking up a text among the keys of a set of byte vectors.
-use Rattle.std.proofs.Common.{◌≡◌, ℕ, ◌+◌, ◌<◌, Bool, true, false, not, cond, ◌||◌, List, [], ◌∷◌, ◌++◌, length, map, position, slice_get, get_or, Option, Some, None, refl, sym, ap, ◌∙◌, arith, inl, inr, nat_eq, Decides, subst, ◌⊎◌, suc, nat_lt}
+use Rattle.std.proofs.Common.{◌≡◌, ℕ, ◌+◌, Bool, false, not, cond, ◌||◌, List, [], ◌∷◌, ◌++◌, length, map, position, slice_get, get_or, Some, None, refl, sym, ap, ◌∙◌, arith, inl, inr, nat_eq, Decides, subst, ◌⊎◌, suc, nat_lt}
 use Rattle.std.specs.List.{Contains, list_any, prefix_len, position_or_len}
 use lib.Pointwise.{pointwise}
 use Rattle.std.proofs.lemmas.Bool.{cases_Bool, false≢true}
@@ -35,9 +35,9 @@ module _ {V : Type 0} (view : V → List ℕ) (text : List ℕ) where
       let here : Decides (Test v) (text ≡ view v) = same_text text (view v) in
       elim (cases_Bool (Test v)) [
         | inl e ↦
-        (λ _. subst (λ (t : List ℕ). Contains (view v ∷ map view vs) t) (sym (here.0 e)) (Contains-append_left (view v ∷ []) (map view vs) (view v) (Contains-push [] (view v))), λ _. ap (λ b. b || list_any Test vs) e)
+            (λ _. subst (λ (t : List ℕ). Contains (view v ∷ map view vs) t) (sym (here.0 e)) (Contains-append_left (view v ∷ []) (map view vs) (view v) (Contains-push [] (view v))), λ _. ap (λ b. b || list_any Test vs) e)
         | inr e ↦
-        (λ h. Contains-append_right (view v ∷ []) (map view vs) text (rest.0 (sym (ap (λ b. b || list_any Test vs) e) ∙ h)), λ h. ap (λ b. b || list_any Test vs) e ∙ elim (contains_cases (view v) (map view vs) text h) [ inl same ↦ absurd (false≢true (sym e ∙ here.1 (sym same))) | inr later ↦ rest.1 later ])
+            (λ h. Contains-append_right (view v ∷ []) (map view vs) text (rest.0 (sym (ap (λ b. b || list_any Test vs) e) ∙ h)), λ h. ap (λ b. b || list_any Test vs) e ∙ elim (contains_cases (view v) (map view vs) text h) [ inl same ↦ absurd (false≢true (sym e ∙ here.1 (sym same))) | inr later ↦ rest.1 later ])
       ]
 
   prefix_seen : (vs : List V) → prefix_len (λ v. not (Test v)) vs ≡ prefix_len (λ t. not (pointwise nat_eq text t)) (map view vs)
@@ -67,7 +67,7 @@ nowhere p (v ∷ vs) e =
     elim (cases_Bool (p v)) [
       | inl one ↦ absurd (false≢true (sym e ∙ ap (λ b. b || list_any p vs) one))
       | inr none ↦
-      ap (λ b. cond (not b) (1 + position_or_len p vs) 0) none ∙ ap (λ n. 1 + n) (nowhere p vs (sym (ap (λ b. b || list_any p vs) none) ∙ e)) ∙ omega arith
+          ap (λ b. cond (not b) (1 + position_or_len p vs) 0) none ∙ ap (λ n. 1 + n) (nowhere p vs (sym (ap (λ b. b || list_any p vs) none) ∙ e)) ∙ omega arith
     ]
 
 module _ {V : Type 0} (view : V → List ℕ) (text : List ℕ) (test : V → Bool) (same : (v : V) → test v ≡ pointwise nat_eq text (view v)) (vs : List V) (fresh : Contains (map view vs) text → ⊥) where

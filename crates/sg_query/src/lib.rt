@@ -4,5 +4,7 @@
 #![tactic(auto)]
 
 mod flat_graph;
+#[cfg(test)]
+mod flat_graph_tests;
 
 pub use flat_graph::FlatGraph;

@@ -1,4 +1,4 @@
-use Rattle.std.proofs.Common.{◌≡◌, ◌∙◌, ap, sym, subst, List, ℕ, ◌++◌, ◌∷◌, [], length, map, nat_eq}
+use Rattle.std.proofs.Common.{◌∙◌, ap, subst, List, ℕ, ◌++◌, ◌∷◌, [], length, nat_eq}
 use Rattle.std.specs.List.{Contains}
 use lib.Pointwise.{pointwise}
 use Rattle.sg_query.proofs.FlatNames.{added_last, number_of_last}

@@ -1,0 +1,9 @@
+pub mod Classes
+pub mod Command
+pub mod FlatReport
+pub mod Laws
+pub mod Lines
+pub mod Listed
+pub mod Places
+pub mod Statuses
+pub mod Told

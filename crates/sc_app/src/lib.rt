@@ -1,0 +1,21 @@
+//! The top call: it reads the words and the tree, and writes the report.
+//!
+//! What the words and the files of a folder determine stands in `specs/Told.antt`; the contract of `run` says that
+//! these bytes are written, with that status, and when each fault comes.
+#![tactic(auto)]
+
+mod check;
+mod command;
+mod flat_report;
+pub mod laws;
+mod line;
+mod listed;
+mod place;
+mod report;
+mod status;
+#[cfg(test)]
+mod tests;
+mod top_call;
+
+pub use status::{Status, Which};
+pub use top_call::run;

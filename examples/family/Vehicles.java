@@ -1,0 +1,4 @@
+class Vehicle {}
+class Car extends Vehicle {}
+class Truck extends Vehicle {}
+class Van extends Car {}

@@ -1,0 +1,3 @@
+class Shape {}
+class Circle extends Shape {}
+class Square extends Rectangle {}

@@ -1,0 +1,4 @@
+class A {}
+class B {}class C {}
+class D extends X {}
+	class E extends Y {}

@@ -1,0 +1,2 @@
+class B extends Object{}
+class A extends C{}
