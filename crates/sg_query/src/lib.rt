@@ -1,10 +1,33 @@
-//! Name resolution over graphs.
+//! Queries in scope graphs and their answers.
 //!
-//! So far the only graph is flat: one scope with the names that are declared in it.
+//! A query follows the words of a path expression from a scope, and answers with the visible paths: those to a wanted
+//! datum that no more specific path to the same datum shadows (Neron et al., "A Theory of Name Resolution", ESOP 2015).
+//! The plain resolver here is slow and simple: its contract is the definition. `FlatGraph` is a graph of one scope with the
+//! names that are declared in it, for sources that need no more.
 #![tactic(auto)]
 
+mod answer;
 mod flat_graph;
 #[cfg(test)]
 mod flat_graph_tests;
+mod found;
+mod found_paths;
+mod kind;
+mod kind_table;
+pub mod laws;
+mod plain;
+mod query;
+mod shadow;
+mod steps;
+#[cfg(test)]
+mod tests;
+mod walk;
 
+pub use answer::Answer;
 pub use flat_graph::FlatGraph;
+pub use found::Found;
+pub use found_paths::FoundPaths;
+pub use kind::Kind;
+pub use kind_table::KindTable;
+pub use plain::ans_plain;
+pub use query::Query;

@@ -1,0 +1,78 @@
+-- The paths of a graph, one step after another, and what a walk keeps of them.
+use Rattle.std.specs.Prelude.{◌≡◌, ℕ, zero, suc, ◌<◌, ◌≤◌, List, [], ◌∷◌, ◌++◌, Bool, if◌then◌else◌, map, ◌⊎◌, IsTrue, length, MatchBool, ◌↔◌}
+use Rattle.std.specs.List.{Contains, flat_map}
+use Rattle.sg_base.specs.declared.scope.Scope.{Scope}
+use Rattle.sg_base.specs.declared.step.Step.{Step}
+use Rattle.sg_base.specs.Graph.{GraphOf, HasDatum, IsPath, row_of}
+use Rattle.sg_base.specs.List.{IsDistinct}
+use Rattle.sg_base.specs.Path.{end_of, word_of}
+use Rattle.sg_expr.specs.declared.expr.Expr.{Expr}
+use Rattle.sg_expr.specs.Word.{In, IsContinuable}
+use Rattle.sg_query.specs.declared.found.Found.{Found}
+use Rattle.sg_query.specs.declared.walk.Seen.{Seen}
+use Rattle.sg_query.specs.Steps.{is_fresh}
+
+-- all labels below a number
+abbrev pub labels_below : ℕ → List ℕ
+labels_below zero = []
+labels_below (suc n) = labels_below n ++ n ∷ []
+
+-- the path with one more step to this scope, if it passes by there nowhere
+abbrev pub into_scope : Scope → List Step → ℕ → Scope → List (List Step)
+into_scope start ps l t = if is_fresh start ps t then (ps ++ (record { label = l; to = t }) ∷ []) ∷ [] else []
+
+-- the path with one more step into this row
+abbrev pub into_row : {D : Type 0} → GraphOf D → Scope → List Step → ℕ → List (List Step)
+into_row g start ps l = flat_map (into_scope start ps l) (row_of g (end_of start ps) l)
+
+-- the path with one more step
+abbrev pub one_more : {D : Type 0} → GraphOf D → Scope → List Step → List (List Step)
+one_more g start ps = flat_map (into_row g start ps) (labels_below 16)
+
+-- the paths with one more step
+abbrev pub next_paths : {D : Type 0} → GraphOf D → Scope → List (List Step) → List (List Step)
+next_paths g start pss = flat_map (one_more g start) pss
+
+-- the second list has, for each thing of the first in turn, one that belongs to it, where there is one
+abbrev pub Gathers : {X Y : Type 0} → (X → Y → Type 0) → List X → List Y → Type 0
+Gathers R [] ys = ys ≡ []
+Gathers {X} {Y} R (x ∷ xs) ys = ((y : Y) × (zs : List Y) × R x y × (ys ≡ y ∷ zs) × Gathers R xs zs) ⊎ (((y : Y) → R x y → ⊥) × Gathers R xs ys)
+
+-- the new list is the old one and what it gathers
+abbrev pub GathersOn : {X Y : Type 0} → (X → Y → Type 0) → List X → List Y → List Y → Type 0
+GathersOn {X} {Y} R xs old new = (ys : List Y) × (new ≡ old ++ ys) × Gathers R xs ys
+
+-- the steps themselves, where their word goes on
+abbrev pub IsGoing : Expr → List Step → List Step → Type 0
+IsGoing e ps qs = (qs ≡ ps) × IsContinuable e (word_of ps)
+
+-- the steps have a word of the expression, and their end this wanted datum
+abbrev pub IsReached : {D : Type 0} → GraphOf D → Expr → (D → Bool) → Scope → List Step → D → Type 0
+IsReached g e wants start ps d = In e (word_of ps) × HasDatum g (end_of start ps) d × IsTrue (wants d)
+
+-- the path with these steps and the wanted datum at its end
+abbrev pub IsFound : {D : Type 0} → GraphOf D → Expr → (D → Bool) → Scope → List Step → Found D → Type 0
+IsFound g e wants start ps f = (f.path ≡ record { start = start; steps = ps }) × IsReached g e wants start ps f.datum
+
+-- of these paths, those that go on and those that reach a wanted datum are added to what was seen
+pub record Visits {D : Type 0} (g : GraphOf D) (e : Expr) (wants : D → Bool) (start : Scope) (pss : List (List Step)) (old new : Seen D) : Type 0 where
+  pub going : GathersOn (IsGoing e) pss old.going.items new.going.items
+  pub found : GathersOn (IsFound g e wants start) pss old.found.items new.found.items
+
+-- all of these paths are visited, or so many that more go on than there is room for
+abbrev pub VisitsWithin : {D : Type 0} → GraphOf D → Expr → (D → Bool) → Scope → List (List Step) → ℕ → Seen D → Seen D → Bool → Type 0
+VisitsWithin g e wants start pss room old new all =
+    MatchBool all (Visits g e wants start pss old new × (length new.going.items ≤ room)) ((front : List (List Step)) × (back : List (List Step)) × (pss ≡ front ++ back) × Visits g e wants start front old new × (room < length new.going.items))
+
+-- a path of the graph with a word of the expression and a wanted datum at its end
+abbrev pub IsArrived : {D : Type 0} → GraphOf D → Expr → (D → Bool) → Scope → List Step → D → Type 0
+IsArrived g e wants start ps d = IsPath g start ps × IsReached g e wants start ps d
+
+-- a path of the graph whose word goes on
+abbrev pub GoesOnFrom : {D : Type 0} → GraphOf D → Expr → Scope → List Step → Type 0
+GoesOnFrom g e start ps = IsPath g start ps × IsContinuable e (word_of ps)
+
+-- the list holds each path that arrives once, with its end's datum
+pub record AreArrived {D : Type 0} (g : GraphOf D) (e : Expr) (wants : D → Bool) (start : Scope) (fs : List (Found D)) : Type 0 where
+  pub once : IsDistinct (map (λ f. f.path) fs)
+  pub arrived : (f : Found D) → (Contains fs f) ↔ ((f.path.start ≡ start) × IsArrived g e wants start f.path.steps f.datum)

@@ -1,0 +1,45 @@
+ghost use Rattle.std.specs.Prelude.{◌<◌, length, IfOk};
+ghost use Rattle.sg_base.specs.Graph.{HasScope};
+ghost use Rattle.sg_query.specs.Answer.{IsAnswer};
+ghost use Rattle.sg_query.specs.Query.{asked};
+
+use crate::answer::Answer;
+use crate::found_paths::FoundPaths;
+use crate::kind_table::KindTable;
+use crate::query::Query;
+use crate::shadow::visible_of;
+use crate::walk::Walk;
+use sg_base::{Graph, Instance};
+use std::alloc::{AllocError, Global};
+
+/// The answer of a query, by all paths of the graph that its words follow.
+///
+/// Looks at 4,096 paths that go on at most, and compares each two found paths: use a resolver of the crates above where
+/// time counts.
+pub fn ans_plain<I: Instance>(
+    alloc: Global,
+    g: &Graph<I::Datum>,
+    t: &KindTable,
+    q: &Query<I::Pred>,
+) -> Result<Answer<I::Datum>, AllocError>
+    requires kind { q.now.kind < length t.now }
+    requires start { HasScope g.now q.now.start }
+    ensures { IfOk result (IsAnswer g.now (asked I.wants I.same_datum t.now q.now)) }
+{
+    let _scopes = g.scopes();
+    let kind = t.kind(q.kind);
+    let walk = Walk::<I> {
+        alloc,
+        graph: g,
+        expr: &kind.expr,
+        pred: &q.pred,
+        start: q.start,
+    };
+    match walk.arrived()? {
+        None => Ok(Answer::TooMany),
+        Some(all) => {
+            let visible = visible_of::<I>(alloc, &kind.order, all.as_slice())?;
+            Ok(Answer::Paths(FoundPaths::new(visible)))
+        }
+    }
+}
