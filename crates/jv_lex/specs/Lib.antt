@@ -1,0 +1,9 @@
+pub mod Character
+pub mod Gap
+pub mod Word
+pub mod Number
+pub mod Quoted
+pub mod Punctuation
+pub mod Text
+pub mod Source
+pub mod Place

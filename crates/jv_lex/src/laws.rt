@@ -1,0 +1,18 @@
+//! What the definitions imply: a source has one list of tokens, or one first bad place.
+
+ghost use Rattle.jv_lex.specs.Source.{TokensAreOne, FaultsAreOne, TokensExcludeFaults};
+
+/// A source has at most one list of tokens.
+pub fn tokens_are_one()
+    ensures { TokensAreOne }
+{}
+
+/// A source has at most one first bad place, of one kind.
+pub fn faults_are_one()
+    ensures { FaultsAreOne }
+{}
+
+/// A source that has tokens has no bad place.
+pub fn tokens_exclude_faults()
+    ensures { TokensExcludeFaults }
+{}
