@@ -1,0 +1,11 @@
+use Rattle.std.proofs.Common.{◌∙◌, ap, position}
+use Rattle.std.specs.String.{string_bytes}
+use Rattle.std.specs.Str.{bytes_eq}
+use Rattle.jv_tree.proofs.Texts.{position_seen}
+use Rattle.jv_tree.proofs.names.Names.find.Goals as goal
+
+pub returns-in-Some : goal.returns-in-Some
+returns-in-Some c = c.in-Some.ensures.index ∙ position_seen string_bytes (bytes_eq c.args.text.now) c.self.inside.texts.keys ∙ ap (position (bytes_eq c.args.text.now)) c.self.view_is
+
+pub returns-in-None : goal.returns-in-None
+returns-in-None c = c.in-None.ensures.index ∙ position_seen string_bytes (bytes_eq c.args.text.now) c.self.inside.texts.keys ∙ ap (position (bytes_eq c.args.text.now)) c.self.view_is
