@@ -12,8 +12,9 @@ use Rattle.sg_base.specs.List.{IsDistinct}
 use Rattle.sg_base.specs.Path.{end_of}
 use Rattle.sg_base.proofs.Edges.{row_from, row_to, Distinct-row}
 use Rattle.sg_base.proofs.Finite.{nothing_in, single, Contains-head, Distinct-append, Contains-flat_map, flat_map-Contains, Distinct-flat_map}
+use Rattle.sg_query.specs.declared.going.Going.{Going}
 use Rattle.sg_query.specs.Steps.{is_fresh}
-use Rattle.sg_query.specs.Walk.{labels_below, into_scope, into_row, one_more, next_paths}
+use Rattle.sg_query.specs.Walk.{labels_below, into_scope, into_row, one_more, next_paths, steps_of, paths_behind}
 use Rattle.sg_query.proofs.Paths.{snoc_same}
 
 -- ---- parts of a joined list
@@ -78,6 +79,11 @@ module _ {D : Type 0} (g : GraphOf D) (start : Scope) (ps : List Step) (n : ℕ)
   row_rest l =
       let h = labels_split n 16 l in
       (flat_map (into_row g start ps) h.0, ap (flat_map (into_row g start ps)) h.1 ∙ flat_map-append (into_row g start ps) (labels_below n) (n ∷ h.0))
+
+-- the paths behind others, by the steps of those
+pub behind_is : {D : Type 0} (g : GraphOf D) (start : Scope) (level : List Going) → paths_behind g start level ≡ next_paths g start (steps_of level)
+behind_is g start [] = refl
+behind_is g start (x ∷ level) = ap (λ (t : List (List Step)). one_more g start x.steps ++ t) (behind_is g start level)
 
 -- ---- one more step
 

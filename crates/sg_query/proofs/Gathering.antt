@@ -1,8 +1,9 @@
 -- Lists that gather, for each thing of another list in turn, what belongs to it.
 use Rattle.std.proofs.Common.{◌≡◌, ◌≢◌, ℕ, ◌<◌, ◌≤◌, List, [], ◌∷◌, ◌++◌, ◌↔◌, inl, inr, refl, sym, ap, ◌∙◌, subst, append_assoc, length, map, Bool, true, false, eqb, arith}
 use Rattle.std.proofs.lemmas.Bool.Decides.{nat_tests}
-use Rattle.std.proofs.lemmas.List.{append-nil}
-use Rattle.std.specs.List.{Contains}
+use Rattle.std.proofs.lemmas.List.{append-nil, map-append}
+use Rattle.std.proofs.lemmas.List.Elements.{All-push}
+use Rattle.std.specs.List.{All, Contains}
 use Rattle.sg_base.specs.declared.scope.Scope.{Scope}
 use Rattle.sg_base.specs.declared.step.Step.{Step}
 use Rattle.sg_base.specs.Graph.{GraphOf}
@@ -12,8 +13,10 @@ use Rattle.sg_base.proofs.Finite.{nothing_in, Contains-head, Contains-cons, Cont
 use Rattle.sg_base.specs.Path.{word_of}
 use Rattle.sg_expr.specs.declared.expr.Expr.{Expr}
 use Rattle.sg_expr.specs.Word.{In, IsContinuable}
+use Rattle.sg_query.specs.declared.going.Going.{Going}
 use Rattle.sg_query.specs.declared.walk.Seen.{Seen}
-use Rattle.sg_query.specs.Walk.{Gathers, GathersOn, Visits, VisitsWithin, IsGoing, IsFound}
+use Rattle.sg_query.specs.Walk.{Gathers, GathersOn, Visits, VisitsWithin, IsGoing, IsFound, HasRest, steps_of}
+use Rattle.sg_query.proofs.Paths.{word_of-append}
 
 module _ {X Y : Type 0} (R : X → Y → Type 0) where
   pub Gathers-append : (xs ws : List X) (ys zs : List Y) → Gathers R xs ys → Gathers R ws zs → Gathers R (xs ++ ws) (ys ++ zs)
@@ -73,14 +76,19 @@ module _ {X Y : Type 0} (R : X → Y → Type 0) where
 
 module _ {D : Type 0} {g : GraphOf D} {e : Expr} {wants : D → Bool} {start : Scope} where
   pub Visits-none : (a : Seen D) → Visits g e wants start [] a a
-  Visits-none a = record { going = GathersOn-none (IsGoing e) a.going.items; found = GathersOn-none (IsFound g e wants start) a.found.items }
+  Visits-none a = record {
+    going = GathersOn-none (IsGoing e) (steps_of a.going.items);
+    rests = λ h. h;
+    found = GathersOn-none (IsFound g e wants start) a.found.items;
+  }
 
   pub Visits-same : {xs : List (List Step)} {a b : Seen D} (ys : List (List Step)) → ys ≡ xs → Visits g e wants start xs a b → Visits g e wants start ys a b
   Visits-same {xs} {a} {b} ys same h = subst (λ (t : List (List Step)). Visits g e wants start t a b) (sym same) h
 
   pub Visits-append : {xs ys : List (List Step)} {a b c : Seen D} → Visits g e wants start xs a b → Visits g e wants start ys b c → Visits g e wants start (xs ++ ys) a c
   Visits-append {xs} {ys} {a} {b} {c} h k = record {
-    going = GathersOn-append (IsGoing e) xs ys a.going.items b.going.items c.going.items h.going k.going;
+    going = GathersOn-append (IsGoing e) xs ys (steps_of a.going.items) (steps_of b.going.items) (steps_of c.going.items) h.going k.going;
+    rests = λ r. k.rests (h.rests r);
     found = GathersOn-append (IsFound g e wants start) xs ys a.found.items b.found.items c.found.items h.found k.found;
   }
 
@@ -94,15 +102,19 @@ module _ {D : Type 0} {g : GraphOf D} {e : Expr} {wants : D → Bool} {start : S
   Visits-full {xs} {ys} whole rest same h k over = (xs ++ ys, rest, same ∙ sym (append_assoc xs ys rest), Visits-append h k, over)
 
   -- a path that goes on is added, and one that does not is left out
-  pub going_more : (a b c : Seen D) (ps : List Step) → IsContinuable e (word_of ps) → c.going.items ≡ b.going.items ++ ps ∷ [] → b.going.items ≡ a.going.items → c.found.items ≡ b.found.items → GathersOn (IsFound g e wants start) (ps ∷ []) a.found.items b.found.items → Visits g e wants start (ps ∷ []) a c
-  going_more a b c ps k more same kept found = record {
-    going = subst (GathersOn (IsGoing e) (ps ∷ []) a.going.items) (sym (more ∙ ap (λ (t : List (List Step)). t ++ ps ∷ []) same)) (GathersOn-one (IsGoing e) ps ps a.going.items (refl, k));
-    found = subst (GathersOn (IsFound g e wants start) (ps ∷ []) a.found.items) (sym kept) found;
-  }
+  pub going_more : (a b c : Seen D) (x : Going) → HasRest e x → IsContinuable e (word_of x.steps) → c.going.items ≡ b.going.items ++ x ∷ [] → b.going.items ≡ a.going.items → c.found.items ≡ b.found.items → GathersOn (IsFound g e wants start) (x.steps ∷ []) a.found.items b.found.items → Visits g e wants start (x.steps ∷ []) a c
+  going_more a b c x rest k more same kept found =
+      let all : c.going.items ≡ a.going.items ++ x ∷ [] = more ∙ ap (λ (t : List Going). t ++ x ∷ []) same in
+      record {
+        going = subst (GathersOn (IsGoing e) (x.steps ∷ []) (steps_of a.going.items)) (sym (ap steps_of all ∙ map-append (λ (y : Going). y.steps) a.going.items (x ∷ []))) (GathersOn-one (IsGoing e) x.steps x.steps (steps_of a.going.items) (refl, k));
+        rests = λ r. subst (λ (t : List Going). All (HasRest e) t) (sym all) (All-push (HasRest e) a.going.items x r rest);
+        found = subst (GathersOn (IsFound g e wants start) (x.steps ∷ []) a.found.items) (sym kept) found;
+      }
 
   pub going_less : (a b : Seen D) (ps : List Step) → (IsContinuable e (word_of ps) → ⊥) → b.going.items ≡ a.going.items → GathersOn (IsFound g e wants start) (ps ∷ []) a.found.items b.found.items → Visits g e wants start (ps ∷ []) a b
   going_less a b ps n same found = record {
-    going = subst (GathersOn (IsGoing e) (ps ∷ []) a.going.items) (sym same) (GathersOn-skip (IsGoing e) ps a.going.items (λ q r. n r.1));
+    going = subst (GathersOn (IsGoing e) (ps ∷ []) (steps_of a.going.items)) (ap steps_of (sym same)) (GathersOn-skip (IsGoing e) ps (steps_of a.going.items) (λ q r. n r.1));
+    rests = λ r. subst (λ (t : List Going). All (HasRest e) t) (sym same) r;
     found = found;
   }
 
@@ -112,6 +124,14 @@ goes_behind e rest w same h = (h.0, h.1, (same h.0).0 h.2)
 
 pub behind_goes : (e rest : Expr) (w : Word) → ((v : Word) → (In rest v) ↔ (In e (w ++ v))) → IsContinuable e w → (v : Word) × (v ≢ []) × In rest v
 behind_goes e rest w same h = (h.0, h.1, (same h.0).1 h.2)
+
+-- the rest of a path with one more step
+pub rest_more : (e : Expr) (x y : Going) (z : Step) → HasRest e x → y.steps ≡ x.steps ++ z ∷ [] → ((w : Word) → (In y.rest w) ↔ (In x.rest (z.label ∷ w))) → HasRest e y
+rest_more e x y z rest same behind w =
+    let word : word_of y.steps ++ w ≡ word_of x.steps ++ (z.label ∷ w) = ap (λ (t : List Step). word_of t ++ w) same ∙ ap (λ (t : Word). t ++ w) (word_of-append x.steps (z ∷ [])) ∙ append_assoc (word_of x.steps) (z.label ∷ []) w in (
+      (λ h. subst (In e) (sym word) ((rest (z.label ∷ w)).0 ((behind w).0 h))),
+      (λ h. (behind w).1 ((rest (z.label ∷ w)).1 (subst (In e) word h))),
+    )
 
 -- no more belongs to a list than it is long
 pub length-Gathers : {X Y : Type 0} (R : X → Y → Type 0) (xs : List X) (ys : List Y) → Gathers R xs ys → length ys ≤ length xs

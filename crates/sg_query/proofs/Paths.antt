@@ -1,7 +1,6 @@
 -- Steps one after another: their words, ends and scopes, and when they are a path.
-use Rattle.std.proofs.Common.{◌≡◌, ℕ, zero, suc, ◌<◌, ◌≤◌, ◌+◌, List, [], ◌∷◌, ◌++◌, Bool, true, false, not, ◌&&◌, ◌||◌, inl, inr, refl, sym, ap, ◌∙◌, subst, append_assoc, length, take, get_or, arith}
+use Rattle.std.proofs.Common.{◌≡◌, ℕ, zero, suc, ◌<◌, ◌≤◌, List, [], ◌∷◌, ◌++◌, Bool, true, false, not, ◌&&◌, ◌||◌, inl, inr, refl, sym, ap, subst, length, arith}
 use Rattle.std.proofs.lemmas.Bool.{cases_Bool}
-use Rattle.std.proofs.lemmas.List.{take_more}
 use Rattle.std.specs.List.{Contains, list_any}
 use Rattle.sg_base.specs.declared.scope.Scope.{Scope}
 use Rattle.sg_base.specs.declared.step.Step.{Step}
@@ -26,11 +25,6 @@ end_of-append s (p ∷ ps) qs = end_of-append p.to ps qs
 pub reached_by-append : (ps qs : List Step) → reached_by (ps ++ qs) ≡ reached_by ps ++ reached_by qs
 reached_by-append [] qs = refl
 reached_by-append (p ∷ ps) qs = ap (λ (t : List Scope). p.to ∷ t) (reached_by-append ps qs)
-
--- one more step of a word
-pub word_more : (ps : List Step) (i : ℕ) (x : Step) (w : List ℕ) → i < length ps → x ≡ get_or ps i x → word_of (take (i + 1) ps) ++ w ≡ word_of (take i ps) ++ (x.label ∷ w)
-word_more ps i x w l h =
-    ap (λ (t : List Step). word_of t ++ w) (take_more ps i x l ∙ ap (λ (y : Step). take i ps ++ y ∷ []) (sym h)) ∙ ap (λ (t : List ℕ). t ++ w) (word_of-append (take i ps) (x ∷ [])) ∙ append_assoc (word_of (take i ps)) (x.label ∷ []) w
 
 -- ---- the last step, and a front
 

@@ -1,14 +1,16 @@
 -- The paths of a graph, one step after another, and what a walk keeps of them.
 use Rattle.std.specs.Prelude.{◌≡◌, ℕ, zero, suc, ◌<◌, ◌≤◌, List, [], ◌∷◌, ◌++◌, Bool, if◌then◌else◌, map, ◌⊎◌, IsTrue, length, MatchBool, ◌↔◌}
-use Rattle.std.specs.List.{Contains, flat_map}
+use Rattle.std.specs.List.{All, Contains, flat_map}
 use Rattle.sg_base.specs.declared.scope.Scope.{Scope}
 use Rattle.sg_base.specs.declared.step.Step.{Step}
 use Rattle.sg_base.specs.Graph.{GraphOf, HasDatum, IsPath, row_of}
 use Rattle.sg_base.specs.List.{IsDistinct}
 use Rattle.sg_base.specs.Path.{end_of, word_of}
+use Rattle.sg_base.specs.Label.{Word}
 use Rattle.sg_expr.specs.declared.expr.Expr.{Expr}
 use Rattle.sg_expr.specs.Word.{In, IsContinuable}
 use Rattle.sg_query.specs.declared.found.Found.{Found}
+use Rattle.sg_query.specs.declared.going.Going.{Going}
 use Rattle.sg_query.specs.declared.walk.Seen.{Seen}
 use Rattle.sg_query.specs.Steps.{is_fresh}
 
@@ -33,6 +35,18 @@ one_more g start ps = flat_map (into_row g start ps) (labels_below 16)
 abbrev pub next_paths : {D : Type 0} → GraphOf D → Scope → List (List Step) → List (List Step)
 next_paths g start pss = flat_map (one_more g start) pss
 
+-- the steps of these paths
+abbrev pub steps_of : List Going → List (List Step)
+steps_of xs = map (λ x. x.steps) xs
+
+-- the paths with one more step than these
+abbrev pub paths_behind : {D : Type 0} → GraphOf D → Scope → List Going → List (List Step)
+paths_behind g start level = flat_map (λ x. one_more g start x.steps) level
+
+-- the rest of the path has the words that may follow its word in the expression
+abbrev pub HasRest : Expr → Going → Type 0
+HasRest e x = (w : Word) → (In x.rest w) ↔ (In e (word_of x.steps ++ w))
+
 -- the second list has, for each thing of the first in turn, one that belongs to it, where there is one
 abbrev pub Gathers : {X Y : Type 0} → (X → Y → Type 0) → List X → List Y → Type 0
 Gathers R [] ys = ys ≡ []
@@ -54,9 +68,10 @@ IsReached g e wants start ps d = In e (word_of ps) × HasDatum g (end_of start p
 abbrev pub IsFound : {D : Type 0} → GraphOf D → Expr → (D → Bool) → Scope → List Step → Found D → Type 0
 IsFound g e wants start ps f = (f.path ≡ record { start = start; steps = ps }) × IsReached g e wants start ps f.datum
 
--- of these paths, those that go on and those that reach a wanted datum are added to what was seen
+-- of these paths, those that go on, each with its rest, and those that reach a wanted datum are added to what was seen
 pub record Visits {D : Type 0} (g : GraphOf D) (e : Expr) (wants : D → Bool) (start : Scope) (pss : List (List Step)) (old new : Seen D) : Type 0 where
-  pub going : GathersOn (IsGoing e) pss old.going.items new.going.items
+  pub going : GathersOn (IsGoing e) pss (steps_of old.going.items) (steps_of new.going.items)
+  pub rests : All (HasRest e) old.going.items → All (HasRest e) new.going.items
   pub found : GathersOn (IsFound g e wants start) pss old.found.items new.found.items
 
 -- all of these paths are visited, or so many that more go on than there is room for

@@ -12,6 +12,7 @@ mod flat_graph;
 mod flat_graph_tests;
 mod found;
 mod found_paths;
+mod going;
 mod kind;
 mod kind_table;
 pub mod laws;

@@ -61,7 +61,8 @@ impl Steps {
     pub fn with(&self, alloc: Global, label: Label, to: Scope) -> Result<Steps, AllocError>
         ensures { IfOk result (λ r. r ≡ self.now ++ (record { label = label; to = to }) ∷ []) }
     {
-        let mut items = Vec::from_slice(alloc, self.items.as_slice())?;
+        let mut items = Vec::with_capacity(alloc, self.items.len() + 1)?;
+        items.extend_from_slice(self.items.as_slice())?;
         items.push(Step { label, to })?;
         Ok(Steps { items })
     }

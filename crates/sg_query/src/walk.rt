@@ -1,15 +1,13 @@
 ghost use Rattle.std.specs.Prelude.{◌≡◌, ◌≤◌, [], ◌∷◌, ◌++◌, length, ◌↔◌, IsTrue, IfOk, OnOk, MatchOption};
+ghost use Rattle.std.specs.List.{All};
 ghost use Rattle.sg_base.specs.Graph.{IsGraph};
-ghost use Rattle.sg_base.specs.Label.{Word};
 ghost use Rattle.sg_base.specs.List.{MoreThan};
-ghost use Rattle.sg_base.specs.Path.{word_of};
-ghost use Rattle.sg_expr.specs.Word.{In};
 ghost use Rattle.sg_query.specs.Answer.{most_paths};
-ghost use Rattle.sg_query.specs.Walk.{Visits, VisitsWithin, GathersOn, IsReached, IsFound, AreArrived, GoesOnFrom, into_scope, into_row, one_more, next_paths};
+ghost use Rattle.sg_query.specs.Walk.{HasRest, Visits, VisitsWithin, GathersOn, IsReached, IsFound, AreArrived, GoesOnFrom, into_scope, into_row, one_more, paths_behind};
 
 use crate::found::Found;
-use crate::steps::Steps;
-use sg_base::{Graph, Instance, Label, Scope, Step};
+use crate::going::Going;
+use sg_base::{Graph, Instance, Label, Scope};
 use sg_expr::Expr;
 use std::alloc::{AllocError, Global};
 use std::mem;
@@ -30,7 +28,7 @@ pub struct Walk<'a, I: Instance> {
 /// What a walk has seen: of the paths of one length those whose words go on, and all paths that reach a wanted datum.
 #[derive(Drop)]
 struct Seen<D> {
-    going: Vec<Steps>,
+    going: Vec<Going>,
     found: Vec<Found<D>>,
 }
 
@@ -44,7 +42,7 @@ impl<I: Instance> Walk<'_, I> {
             going: Vec::new(self.alloc),
             found: Vec::new(self.alloc),
         };
-        self.visit(Steps::none(self.alloc), &mut seen)?;
+        self.visit(Going::first(self.alloc, self.expr)?, &mut seen)?;
         let mut room = MOST_PATHS;
         while !seen.going.is_empty() {
             let level = mem::replace(&mut seen.going, Vec::new(self.alloc));
@@ -59,15 +57,16 @@ impl<I: Instance> Walk<'_, I> {
     /// Visits the paths with one step more than these, and answers whether there was room for all that go on.
     fn visit_behind(
         &self,
-        level: &[Steps],
+        level: &[Going],
         room: usize,
         seen: &mut Seen<I::Datum>,
     ) -> Result<bool, AllocError>
-        requires { length seen.old.going.items ≤ room }
-        ensures { IfOk result (VisitsWithin self.now.graph.now self.now.expr.now (I.wants self.now.pred.now) self.now.start (next_paths self.now.graph.now self.now.start level.now) room seen.old seen.new) }
+        requires fits { length seen.old.going.items ≤ room }
+        requires rests { All (HasRest self.now.expr.now) level.now }
+        ensures { IfOk result (VisitsWithin self.now.graph.now self.now.expr.now (I.wants self.now.pred.now) self.now.start (paths_behind self.now.graph.now self.now.start level.now) room seen.old seen.new) }
     {
-        for steps in level {
-            if !self.visit_one_more(steps, room, seen)? {
+        for going in level {
+            if !self.visit_one_more(going, room, seen)? {
                 return Ok(false);
             }
         }
@@ -77,15 +76,16 @@ impl<I: Instance> Walk<'_, I> {
     /// The same for the paths with one step more than this one.
     fn visit_one_more(
         &self,
-        steps: &Steps,
+        going: &Going,
         room: usize,
         seen: &mut Seen<I::Datum>,
     ) -> Result<bool, AllocError>
-        requires { length seen.old.going.items ≤ room }
-        ensures { IfOk result (VisitsWithin self.now.graph.now self.now.expr.now (I.wants self.now.pred.now) self.now.start (one_more self.now.graph.now self.now.start steps.now) room seen.old seen.new) }
+        requires fits { length seen.old.going.items ≤ room }
+        requires rest { HasRest self.now.expr.now going.now }
+        ensures { IfOk result (VisitsWithin self.now.graph.now self.now.expr.now (I.wants self.now.pred.now) self.now.start (one_more self.now.graph.now self.now.start going.now.steps) room seen.old seen.new) }
     {
         for number in 0..16 {
-            if !self.visit_row(steps, Label::new(number), room, seen)? {
+            if !self.visit_row(going, Label::new(number), room, seen)? {
                 return Ok(false);
             }
         }
@@ -95,16 +95,17 @@ impl<I: Instance> Walk<'_, I> {
     /// The same for the paths with one step more over a label.
     fn visit_row(
         &self,
-        steps: &Steps,
+        going: &Going,
         label: Label,
         room: usize,
         seen: &mut Seen<I::Datum>,
     ) -> Result<bool, AllocError>
-        requires { length seen.old.going.items ≤ room }
-        ensures { IfOk result (VisitsWithin self.now.graph.now self.now.expr.now (I.wants self.now.pred.now) self.now.start (into_row self.now.graph.now self.now.start steps.now label) room seen.old seen.new) }
+        requires fits { length seen.old.going.items ≤ room }
+        requires rest { HasRest self.now.expr.now going.now }
+        ensures { IfOk result (VisitsWithin self.now.graph.now self.now.expr.now (I.wants self.now.pred.now) self.now.start (into_row self.now.graph.now self.now.start going.now.steps label) room seen.old seen.new) }
     {
-        for to in self.graph.edges_of(steps.end(self.start), label) {
-            self.visit_scope(steps, label, *to, seen)?;
+        for to in self.graph.edges_of(going.steps.end(self.start), label) {
+            self.visit_scope(going, label, *to, seen)?;
             if seen.going.len() > room {
                 return Ok(false);
             }
@@ -115,62 +116,58 @@ impl<I: Instance> Walk<'_, I> {
     /// Visits the path with one step more to a scope, if it passes by there nowhere.
     fn visit_scope(
         &self,
-        steps: &Steps,
+        going: &Going,
         label: Label,
         to: Scope,
         seen: &mut Seen<I::Datum>,
     ) -> Result<(), AllocError>
-        ensures { OnOk result (Visits self.now.graph.now self.now.expr.now (I.wants self.now.pred.now) self.now.start (into_scope self.now.start steps.now label to) seen.old seen.new) }
+        requires { HasRest self.now.expr.now going.now }
+        ensures { OnOk result (Visits self.now.graph.now self.now.expr.now (I.wants self.now.pred.now) self.now.start (into_scope self.now.start going.now.steps label to) seen.old seen.new) }
     {
-        if !steps.is_fresh(self.start, to) {
+        if !going.steps.is_fresh(self.start, to) {
             return Ok(());
         }
-        self.visit(steps.with(self.alloc, label, to)?, seen)?;
+        self.visit(going.with(self.alloc, label, to)?, seen)?;
         Ok(())
     }
 
     /// Adds a path to what was seen, where its word goes on, and where it reaches a wanted datum.
-    fn visit(&self, steps: Steps, seen: &mut Seen<I::Datum>) -> Result<(), AllocError>
-        ensures { OnOk result (Visits self.now.graph.now self.now.expr.now (I.wants self.now.pred.now) self.now.start (steps ∷ []) seen.old seen.new) }
+    fn visit(&self, going: Going, seen: &mut Seen<I::Datum>) -> Result<(), AllocError>
+        requires { HasRest self.now.expr.now going }
+        ensures { OnOk result (Visits self.now.graph.now self.now.expr.now (I.wants self.now.pred.now) self.now.start (going.steps ∷ []) seen.old seen.new) }
     {
-        let rest = after_steps(self.alloc, self.expr, steps.as_slice())?;
-        self.visit_end(&steps, &rest, seen)?;
-        if rest.goes_on() {
-            seen.going.push(steps)?;
+        self.visit_end(&going, seen)?;
+        if going.rest.goes_on() {
+            seen.going.push(going)?;
         }
         Ok(())
     }
 
     /// Adds a path to what was found, where it reaches a wanted datum.
-    fn visit_end(
-        &self,
-        steps: &Steps,
-        rest: &Expr,
-        seen: &mut Seen<I::Datum>,
-    ) -> Result<(), AllocError>
-        requires { (w : Word) → (In rest.now w) ↔ (In self.now.expr.now (word_of steps.now ++ w)) }
-        ensures found { OnOk result (GathersOn (IsFound self.now.graph.now self.now.expr.now (I.wants self.now.pred.now) self.now.start) (steps.now ∷ []) seen.old.found.items seen.new.found.items) }
+    fn visit_end(&self, going: &Going, seen: &mut Seen<I::Datum>) -> Result<(), AllocError>
+        requires { HasRest self.now.expr.now going.now }
+        ensures found { OnOk result (GathersOn (IsFound self.now.graph.now self.now.expr.now (I.wants self.now.pred.now) self.now.start) (going.now.steps ∷ []) seen.old.found.items seen.new.found.items) }
         ensures going { seen.new.going ≡ seen.old.going }
     {
-        if let Some(found) = self.found_at(steps, rest)? {
+        if let Some(found) = self.found_at(going)? {
             seen.found.push(found)?;
         }
         Ok(())
     }
 
-    /// The path with its end's datum, where its word belongs and the datum is wanted, by the words that may follow.
-    fn found_at(&self, steps: &Steps, rest: &Expr) -> Result<Option<Found<I::Datum>>, AllocError>
-        requires { (w : Word) → (In rest.now w) ↔ (In self.now.expr.now (word_of steps.now ++ w)) }
-        ensures { IfOk result (λ o. MatchOption o ((d : I.Datum) → IsReached self.now.graph.now self.now.expr.now (I.wants self.now.pred.now) self.now.start steps.now d → ⊥) (IsFound self.now.graph.now self.now.expr.now (I.wants self.now.pred.now) self.now.start steps.now)) }
+    /// The path with its end's datum, where its word belongs and the datum is wanted.
+    fn found_at(&self, going: &Going) -> Result<Option<Found<I::Datum>>, AllocError>
+        requires { HasRest self.now.expr.now going.now }
+        ensures { IfOk result (λ o. MatchOption o ((d : I.Datum) → IsReached self.now.graph.now self.now.expr.now (I.wants self.now.pred.now) self.now.start going.now.steps d → ⊥) (IsFound self.now.graph.now self.now.expr.now (I.wants self.now.pred.now) self.now.start going.now.steps)) }
     {
-        if !rest.nullable() {
+        if !going.rest.nullable() {
             return Ok(None);
         }
-        match self.graph.datum(steps.end(self.start)) {
+        match self.graph.datum(going.steps.end(self.start)) {
             None => Ok(None),
             Some(datum) => {
                 if I::matches(self.pred, datum) {
-                    let path = steps.path(self.alloc, self.start)?;
+                    let path = going.steps.path(self.alloc, self.start)?;
                     let datum = I::copy_datum(self.alloc, datum)?;
                     Ok(Some(Found { path, datum }))
                 } else {
@@ -179,15 +176,4 @@ impl<I: Instance> Walk<'_, I> {
             }
         }
     }
-}
-
-/// The expression of the words that go on from these steps.
-fn after_steps(alloc: Global, expr: &Expr, steps: &[Step]) -> Result<Expr, AllocError>
-    ensures { IfOk result (λ r. (w : Word) → (In r w) ↔ (In expr.now (word_of steps.now ++ w))) }
-{
-    let mut rest = expr.copy(alloc)?;
-    for step in steps {
-        rest = rest.after(alloc, step.label)?;
-    }
-    Ok(rest)
 }

@@ -1,5 +1,7 @@
 use Rattle.std.proofs.Common.{◌≡◌, ◌≤◌, ◌+◌, ℕ, length}
+use Rattle.std.specs.List.{All}
 use Rattle.sg_base.specs.Graph.{IsGraph}
+use Rattle.sg_query.specs.Walk.{HasRest, steps_of}
 use Rattle.sg_query.proofs.Walking.{WalkedTo}
 use Rattle.sg_query.proofs.walk.Walk.arrived.Given as goal
 
@@ -10,7 +12,8 @@ invariant-loop-seen g l = record {
   count : ℕ;
   sum : count + l.room ≡ 4096;
   fits : length l.seen.going.items ≤ l.room;
-  walked : WalkedTo l.self.graph.now sound l.self.expr.now l.self.start (g.I.Instance.wants l.self.pred.now) steps l.seen.going.items l.seen.found.items count;
+  rests : All (HasRest l.self.expr.now) l.seen.going.items;
+  walked : WalkedTo l.self.graph.now sound l.self.expr.now l.self.start (g.I.Instance.wants l.self.pred.now) steps (steps_of l.seen.going.items) l.seen.found.items count;
 }
 
 abbrev pub decreases-loop-seen : goal.decreases-loop-seen

@@ -5,11 +5,9 @@ use Rattle.sg_query.proofs.walk.Walk.visit.Goals as goal
 
 pub returns-in_ok-push : goal.returns-in_ok-push
 returns-in_ok-push g c =
-    let behind = rw c.as_slice.ensures at c.in_ok-rest.ensures in
-    let goes = goes_behind c.args.self.now.expr.now c.in_ok-rest.rest (word_of c.args.steps) behind (c.goes_on.ensures.0 c.if-goes_on.true) in
-    going_more c.args.seen.now c.visit_end.new.seen (record { going = c.push.new.self; found = c.visit_end.new.seen.found }) c.args.steps goes c.in_ok-push.ensures.items (ap (λ v. v.items) c.in_ok-visit_end.ensures.going) refl c.in_ok-visit_end.ensures.found
+    let goes = goes_behind c.args.self.now.expr.now c.args.going.rest (word_of c.args.going.steps) c.requires (c.goes_on.ensures.0 c.if-goes_on.true) in
+    going_more c.args.seen.now c.visit_end.new.seen (record { going = c.push.new.self; found = c.visit_end.new.seen.found }) c.args.going c.requires goes c.in_ok-push.ensures.items (ap (λ v. v.items) c.in_ok-visit_end.ensures.going) refl c.in_ok-visit_end.ensures.found
 
 pub returns-else-goes_on : goal.returns-else-goes_on
 returns-else-goes_on g c =
-    let behind = rw c.as_slice.ensures at c.in_ok-rest.ensures in
-    going_less c.args.seen.now c.visit_end.new.seen c.args.steps (λ k. cc (c.goes_on.ensures.1 (behind_goes c.args.self.now.expr.now c.in_ok-rest.rest (word_of c.args.steps) behind k), c.if-goes_on.false)) (ap (λ v. v.items) c.in_ok-visit_end.ensures.going) c.in_ok-visit_end.ensures.found
+    going_less c.args.seen.now c.visit_end.new.seen c.args.going.steps (λ k. cc (c.goes_on.ensures.1 (behind_goes c.args.self.now.expr.now c.args.going.rest (word_of c.args.going.steps) c.requires k), c.if-goes_on.false)) (ap (λ v. v.items) c.in_ok-visit_end.ensures.going) c.in_ok-visit_end.ensures.found
