@@ -1,0 +1,5 @@
+pub mod Example
+pub mod Law
+pub mod Reading
+pub mod Replies
+pub mod Stop

@@ -1,0 +1,50 @@
+//! Laws of rules, each the contract of a function that does nothing.
+
+ghost use Rattle.sg_reading.specs.Law.{
+  ReadsOnlyItsQueries,
+  NeedsOnlyItsQueries,
+  ValuesAreOne,
+  NeedsAreOne,
+  ValuesNeedNothing,
+  QueriesAreListed,
+  ValuesWhereReplied,
+  RulesAreKnown,
+  KnownInOneWay,
+  GivesInTurn,
+  AsksInTurn,
+};
+
+use crate::answers::Answers;
+
+/// A rule looks at a set of answers only by the queries that it asks: where another set answers these alike, it comes
+/// to the same end there.
+pub fn readings_read_only_their_queries<
+    U,
+    R: Answers,
+    S: Answers<Query = R::Query, Answer = R::Answer>,
+>()
+    ensures value { ReadsOnlyItsQueries U R.has_answer S.has_answer }
+    ensures need { NeedsOnlyItsQueries U R.has_answer S.has_answer }
+{}
+
+/// A rule has one value or comes to one query without an answer, and never both.
+pub fn readings_have_one_end<U, R: Answers>()
+    ensures value { ValuesAreOne U R.has_answer }
+    ensures need { NeedsAreOne U R.has_answer }
+    ensures either { ValuesNeedNothing U R.has_answer }
+    ensures listed { QueriesAreListed U R.has_answer }
+{}
+
+/// What is read over replies is exact: it is the rule's value where all that the rule asks has a reply, and else the
+/// query that has none.
+pub fn replies_decide_readings<Q, A, U>()
+    ensures value { ValuesWhereReplied Q A U }
+    ensures known { RulesAreKnown Q A U }
+    ensures one { KnownInOneWay Q A U }
+{}
+
+/// One rule after another asks the queries of both, and gives what the second gives.
+pub fn readings_follow_one_another<U, W, R: Answers>()
+    ensures value { GivesInTurn U W R.has_answer }
+    ensures asked { AsksInTurn U W R.has_answer }
+{}
