@@ -1,0 +1,9 @@
+pub mod Greatest
+pub mod Growing
+pub mod Growth
+pub mod Honest
+pub mod Moments
+pub mod Ranks
+pub mod Running
+pub mod Seen
+pub mod Sets

@@ -1,0 +1,7 @@
+pub mod Growth
+pub mod Law
+pub mod List
+pub mod Program
+pub mod Run
+pub mod Strata
+pub mod Unit
