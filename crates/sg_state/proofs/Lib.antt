@@ -1,0 +1,15 @@
+pub mod Keyed
+pub mod Removing
+pub mod PlaceRows
+pub mod RisingLists
+pub mod Views
+pub mod Changing
+pub mod Leaving
+pub mod Writing
+pub mod Keeping
+pub mod Ending
+pub mod Noting
+pub mod Extending
+pub mod Finding
+pub mod Making
+pub mod Freshening

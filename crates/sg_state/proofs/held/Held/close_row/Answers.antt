@@ -1,0 +1,21 @@
+use Rattle.sg_state.proofs.Keeping.{held_from}
+use Rattle.sg_state.proofs.Views.{hold_from}
+use Rattle.sg_state.proofs.Writing.{row_closed, close_kept}
+use Rattle.sg_state.proofs.held.Held.close_row.Goals as goal
+
+pub remove_holder-requires-clause-there : goal.remove_holder-requires-clause-there
+remove_holder-requires-clause-there g c =
+    let holds = rw (← c.self.view_is) at c.requires.holds in
+    let h = hold_from c.self.inside.places.entries c.args.s c.args.l c.args.unit holds in
+    (h.0, h.1)
+
+pub invariant_of-self : goal.invariant_of-self
+invariant_of-self g c =
+    close_kept c.self.inside.places.entries c.remove_holder.new.places.entries c.self.inside.made.items c.args.s (c.self.invariant).places c.self.inside.lists.entries c.self.invariant c.number-label.result c.args.unit c.remove_holder.ensures
+
+pub returns-clause-closed : goal.returns-clause-closed
+returns-clause-closed g c =
+    rw (← c.self.view_is, ← c.number-label.ensures.value) (row_closed c.self.inside.places.entries c.remove_holder.new.places.entries c.self.inside.made.items c.args.s (c.self.invariant).places c.number-label.result c.args.unit c.remove_holder.ensures)
+
+pub returns-clause-sound : goal.returns-clause-sound
+returns-clause-sound g c = held_from c.remove_holder.new.places.entries c.self.inside.made.items c.self.inside.lists.entries (invariant_of-self g c)

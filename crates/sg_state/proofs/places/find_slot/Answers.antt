@@ -1,0 +1,12 @@
+use Rattle.std.proofs.Common.{sym}
+use Rattle.sg_base.specs.Scope.{scope_cmp, scope_total}
+use Rattle.sg_base.proofs.Scopes.{equal_scope}
+use Rattle.sg_state.proofs.Keyed.{found-Contains}
+use Rattle.sg_state.proofs.Changing.{key_found}
+use Rattle.sg_state.proofs.places.find_slot.Goals as goal
+
+pub returns-in-Some-clause-found : goal.returns-in-Some-clause-found
+returns-in-Some-clause-found g c = (c.in-Some.place.now, found-Contains scope_cmp scope_total equal_scope c.args.places.now.entries c.args.s c.in-Some.place.now (sym c.in-Some.ensures.value), sym c.slot.ensures)
+
+pub returns-in-None-clause-none : goal.returns-in-None-clause-none
+returns-in-None-clause-none g c = λ h. key_found c.args.places.now.entries c.args.s h (sym c.in-None.ensures.value)

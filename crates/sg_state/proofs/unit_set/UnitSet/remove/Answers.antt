@@ -1,0 +1,35 @@
+use Rattle.std.specs.Cmp.{nat_cmp_total}
+use Rattle.std.specs.Ordering.{nat_cmp}
+use Rattle.sg_base.proofs.Scopes.{equal_nat}
+use Rattle.sg_base.proofs.Searching.{gap_found, gap_without}
+use Rattle.sg_state.proofs.Removing.{without_from, without_to, without_rises}
+use Rattle.sg_state.proofs.unit_set.UnitSet.remove.Goals as goal
+
+pub invariant_of-self : goal.invariant_of-self
+invariant_of-self c =
+    let within = rw c.deref.ensures.value at c.in-Ok.ensures.bound in
+    let here = rw c.deref.ensures.value at c.in-Ok.ensures.position in
+    rw c.remove.ensures.items (without_rises nat_cmp nat_cmp_total c.self.inside.units.items c.in-Ok.at c.args.unit within (equal_nat _ _ (here c.args.unit)) c.self.invariant)
+
+pub returns-in-Ok-clause-left : goal.returns-in-Ok-clause-left
+returns-in-Ok-clause-left c = λ v.
+    let within = rw c.deref.ensures.value at c.in-Ok.ensures.bound in
+    let here = rw c.deref.ensures.value at c.in-Ok.ensures.position in
+    let same = equal_nat _ _ (here c.args.unit) in
+    rw (c.remove.ensures.items, ← c.self.view_is) (
+      (λ h. without_from nat_cmp nat_cmp_total c.self.inside.units.items c.in-Ok.at c.args.unit within same c.self.invariant v h),
+      (λ h. without_to nat_cmp nat_cmp_total c.self.inside.units.items c.in-Ok.at c.args.unit within same v h.0 h.1),
+    )
+
+pub returns-in-Ok-clause-rising : goal.returns-in-Ok-clause-rising
+returns-in-Ok-clause-rising c = invariant_of-self c
+
+pub returns-in-Err-clause-left : goal.returns-in-Err-clause-left
+returns-in-Err-clause-left c = λ v.
+    let within = rw c.deref.ensures.value at c.in-Err.ensures.bound in
+    let position = rw c.deref.ensures.value at c.in-Err.ensures.position in
+    let items = c.self.inside.units.items in
+    rw (← c.self.view_is) (
+      (λ h. (h, (λ s. gap_without nat_cmp nat_cmp_total equal_nat items c.self.invariant c.args.unit c.in-Err.field-0 (gap_found nat_cmp nat_cmp_total equal_nat items c.self.invariant c.args.unit c.in-Err.field-0 within position) (rw (← s) h)))),
+      (λ h. h.0),
+    )

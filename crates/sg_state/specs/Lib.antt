@@ -1,0 +1,6 @@
+pub mod DatumState
+pub mod Held
+pub mod Place
+pub mod Slot
+pub mod View
+pub mod Write

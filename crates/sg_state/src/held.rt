@@ -1,0 +1,192 @@
+ghost use Rattle.std.specs.Prelude.{◌≡◌, ◌<◌, ◌+◌, ◌^◌, ℕ, IsTrue, ◌↔◌, length, slice_index, IfOk, IfSome, IfNone, OnOk, OnErr};
+ghost use Rattle.std.specs.List.{Contains};
+ghost use Rattle.std.specs.Ordering.{nat_cmp};
+ghost use Rattle.sg_base.specs.declared.scope.Scope.{Scope as ScopeOf};
+ghost use Rattle.sg_base.specs.Graph.{HasScope, HasEdge, row_of};
+ghost use Rattle.sg_base.specs.List.{IsRising};
+ghost use Rattle.sg_base.specs.Scope.{scope_cmp};
+ghost use Rattle.sg_base.specs.State.{IsOpen, IsUnset};
+ghost use Rattle.sg_state.specs.DatumState.{IsDatumState};
+ghost use Rattle.sg_state.specs.Held.{IsHeld, HoldsRow, HoldsDatum, state_of, next_scope, with_no_scope, with_fresh, with_edge, with_datum, without_row, without_unit};
+
+use crate::datum_state::DatumState;
+use crate::place::Place;
+use crate::slot::Slot;
+use crate::{lists, places};
+use sg_base::{Instance, Label, LabelSet, Scope, ScopeSet};
+use std::alloc::{AllocError, Global};
+use std::collections::BTreeMap;
+use std::marker::Model;
+
+/// A graph to which units still add: its scopes, edges and data, the holders of its rows and of its unset data, and how
+/// many scopes each unit has made. A row is closed where it has no holder. After want of memory nothing has changed.
+#[derive(Drop)]
+pub struct Held<I: Instance> {
+    alloc: Global,
+    places: BTreeMap<Scope, Place<I::Datum>>,
+    made: Vec<u32>,
+    lists: BTreeMap<u32, ScopeSet>,
+}
+
+impl<I: Instance> Model for Held<I> {
+    ghost use Rattle.sg_state.specs.Held.{HeldOf};
+
+    ghost Value = { HeldOf I.Datum };
+
+    ghost use Rattle.sg_state.specs.View.{seen, IsKept};
+
+    ghost view = { λ h. seen h.places.entries h.made.items };
+
+    ghost invariant = { λ h. IsKept h.places.entries h.made.items h.lists.entries };
+}
+
+impl<I: Instance> Held<I> {
+    /// The held graph with no scope, for the units with numbers below this one.
+    pub fn new(alloc: Global, units: u32) -> Result<Held<I>, AllocError>
+        ensures empty { IfOk result (λ h. h ≡ with_no_scope units) }
+        ensures sound { IfOk result IsHeld }
+    {
+        let made = vec![in alloc; 0u32; units as usize]?;
+        Ok(Held {
+            alloc,
+            places: BTreeMap::new(alloc),
+            made,
+            lists: BTreeMap::new(alloc),
+        })
+    }
+
+    /// Adds an edge to a row that the unit holds, in the time of look-ups, of a binary search in the row and of moving
+    /// its targets above the new one.
+    pub fn add_edge(
+        &mut self,
+        unit: u32,
+        from: Scope,
+        l: Label,
+        to: Scope,
+    ) -> Result<(), AllocError>
+        requires holds { HoldsRow self.old unit from l }
+        requires target { HasScope self.old.graph to }
+        ensures ok { OnOk result (self.new ≡ with_edge self.old (record { from = from; label = l; to = to })) }
+        ensures sound { IsHeld self.new }
+        ensures err { OnErr result (self.new ≡ self.old) }
+    {
+        let label = l.number();
+        places::add_target(&mut self.places, from, label, to)?;
+        Ok(())
+    }
+
+    /// Sets a datum that the unit holds, by a look-up.
+    pub fn set_datum(&mut self, unit: u32, s: Scope, d: I::Datum)
+        requires holds { HoldsDatum self.old unit s }
+        ensures set { self.new ≡ with_datum self.old unit s d }
+        ensures sound { IsHeld self.new }
+    {
+        places::set_slot(&mut self.places, s, Slot::Given(d));
+    }
+
+    /// Gives up a row that the unit holds, by look-ups. The other holders stay.
+    pub fn close_row(&mut self, unit: u32, s: Scope, l: Label)
+        requires holds { HoldsRow self.old unit s l }
+        ensures closed { self.new ≡ without_row self.old unit s l }
+        ensures sound { IsHeld self.new }
+    {
+        let label = l.number();
+        places::remove_holder(&mut self.places, s, label, unit);
+    }
+
+    /// Gives up all that the unit holds. Its unset data are absent from then on. Costs a look-up for each scope at
+    /// which the unit was given a hold.
+    pub fn end_unit(&mut self, unit: u32)
+        ensures ended { self.new ≡ without_unit self.old unit }
+        ensures sound { IsHeld self.new }
+    {
+        let list = lists::listed(&self.lists, unit);
+        places::leave_all(&mut self.places, list, unit);
+    }
+
+    /// The targets of a row in rising order, by look-ups. Empty where the scope is not one of the graph.
+    pub fn row(&self, s: Scope, l: Label) -> &[Scope]
+        ensures row { result.now ≡ row_of self.now.graph s l }
+        ensures exact { (t : ScopeOf) → (Contains result.now t) ↔ (HasEdge self.now.graph s l t) }
+        ensures rising { IsRising scope_cmp result.now }
+        ensures sound { IsHeld self.now }
+    {
+        let label = l.number();
+        match places::find_row(&self.places, s, label) {
+            Some(row) => row.targets.as_slice(),
+            None => &[],
+        }
+    }
+
+    /// The units that hold a row in rising order, by look-ups.
+    pub fn holders(&self, s: Scope, l: Label) -> &[u32]
+        ensures exact { (u : ℕ) → (Contains result.now u) ↔ (HoldsRow self.now u s l) }
+        ensures rising { IsRising nat_cmp result.now }
+        ensures sound { IsHeld self.now }
+    {
+        let label = l.number();
+        match places::find_row(&self.places, s, label) {
+            Some(row) => row.holders.as_slice(),
+            None => &[],
+        }
+    }
+
+    /// Whether no unit holds the row, by look-ups.
+    pub fn is_closed(&self, s: Scope, l: Label) -> bool
+        ensures { IsTrue result ↔ (IsOpen (state_of self.now) s l → ⊥) }
+    {
+        self.holders(s, l).is_empty()
+    }
+
+    /// The unit that holds the datum of a scope, if the datum is unset, by a look-up.
+    pub fn datum_holder(&self, s: Scope) -> Option<u32>
+        ensures found { IfSome result (λ u. HoldsDatum self.now u s) }
+        ensures none { IfNone result (IsUnset (state_of self.now) s → ⊥) }
+        ensures sound { IsHeld self.now }
+    {
+        match places::find_slot(&self.places, s) {
+            Some(Slot::Waits(unit)) => Some(*unit),
+            Some(Slot::Given(_)) => None,
+            Some(Slot::Empty) => None,
+            None => None,
+        }
+    }
+
+    /// The datum of a scope, by a look-up. Absent where the scope is not one of the graph.
+    pub fn datum(&self, s: Scope) -> DatumState<'_, I::Datum>
+        ensures { IsDatumState self.now s result }
+    {
+        match places::find_slot(&self.places, s) {
+            Some(Slot::Given(datum)) => DatumState::Set(datum),
+            Some(Slot::Waits(_)) => DatumState::Unset,
+            Some(Slot::Empty) => DatumState::Absent,
+            None => DatumState::Absent,
+        }
+    }
+
+    /// Whether a scope is one of the graph, by a look-up.
+    pub fn has_scope(&self, s: Scope) -> bool
+        ensures { IsTrue result ↔ HasScope self.now.graph s }
+    {
+        places::find_slot(&self.places, s).is_some()
+    }
+
+    /// Makes the unit's next scope. The unit holds its rows with these labels, and its datum where that is wanted. Costs
+    /// a look-up, at most sixteen small insertions, and moving the scopes above it in the unit's list.
+    pub fn fresh(&mut self, unit: u32, labels: LabelSet, datum: bool) -> Result<Scope, AllocError>
+        requires unit { unit < length self.old.made }
+        requires room { slice_index self.old.made unit + 1 < 2 ^ 32 }
+        ensures scope { IfOk result (λ s. s ≡ next_scope self.old unit) }
+        ensures ok { OnOk result (self.new ≡ with_fresh self.old unit labels datum) }
+        ensures sound { IsHeld self.new }
+        ensures err { OnErr result (self.new ≡ self.old) }
+    {
+        let serial = self.made[unit as usize];
+        let s = Scope { unit, serial };
+        let place = Place::fresh(self.alloc, unit, labels, datum)?;
+        lists::note(self.alloc, &mut self.lists, unit, s)?;
+        self.places.insert(s, place)?;
+        self.made[unit as usize] = serial + 1;
+        Ok(s)
+    }
+}

@@ -1,0 +1,24 @@
+//! Held graphs: scope graphs that units still add to.
+//!
+//! A row of a held graph is open while a unit holds it, and a datum is unset while a unit holds it. Only a holder adds
+//! to a row or sets a datum, so what the graph may become is known at each moment (Van Antwerpen and Visser, "Scope
+//! States", ECOOP 2021). No query and no order of units is known here.
+#![tactic(auto)]
+
+mod datum_state;
+mod held;
+pub mod laws;
+mod lists;
+mod need;
+mod place;
+mod places;
+mod row;
+mod slot;
+mod unit_set;
+
+pub use datum_state::DatumState;
+pub use held::Held;
+pub use need::Need;
+
+#[cfg(test)]
+mod tests;
