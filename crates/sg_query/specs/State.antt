@@ -30,3 +30,14 @@ GoesOnClosed h q ps = IsClosedPath h q.start ps × IsContinuable q.expr (word_of
 -- the query's answer can no longer change
 abbrev pub IsSettled : {D : Type 0} → State D → Asked D → Type 0
 IsSettled h q = NothingBlocks h q ⊎ MoreThan most_paths (GoesOnClosed h q)
+
+-- what a search looks at: a path with a next label, or a path whose word is whole and whose end's datum is read
+pub data Item : Type 0 where
+  next : List Step → ℕ → Item
+  whole : List Step → Item
+
+-- an item of the query: a closed path that some word of the expression goes on from into a row that is not open, or a closed path whose word is
+-- in the expression and whose end's datum is not unset
+abbrev pub IsItem : {D : Type 0} → State D → Asked D → Item → Type 0
+IsItem h q (next ps l) = IsClosedPath h q.start ps × IsViable q.expr (word_of ps ++ l ∷ []) × (IsOpen h (end_of q.start ps) l → ⊥)
+IsItem h q (whole ps) = IsClosedPath h q.start ps × In q.expr (word_of ps) × (IsUnset h (end_of q.start ps) → ⊥)

@@ -1,5 +1,6 @@
 pub mod DatumState
 pub mod Held
+pub mod Opening
 pub mod Place
 pub mod Slot
 pub mod View

@@ -1,0 +1,9 @@
+//! The grammar of the Java profile: what a source of it is.
+//!
+//! `specs/` says which tree derives from which terminals, and how deep a source is nested (docs/JAVA-PROFILE.md). It
+//! knows nothing of a parser's code: laws say that at most one tree derives, and that a reader of `specs/` finds it.
+#![tactic(auto)]
+
+mod terminal;
+
+pub use terminal::{LiteralKind, Terminal};

@@ -1,0 +1,62 @@
+-- Openings: the graph with which a run begins, and who holds what there.
+use Rattle.std.specs.Prelude.{◌≡◌, ℕ, ◌+◌, ◌-◌, ◌<◌, ◌^◌, List, [], ◌∷◌, ◌++◌, map, length, replicate, fold, All}
+use Rattle.std.specs.Ordering.{on}
+use Rattle.std.specs.List.{Contains}
+use Rattle.sg_base.specs.declared.scope.Scope.{Scope}
+use Rattle.sg_base.specs.Graph.{Edge, GraphOf, HasScope, edge_cmp}
+use Rattle.sg_base.specs.List.{IsDistinct}
+use Rattle.sg_base.specs.Scope.{scope_cmp}
+use Rattle.sg_state.specs.Held.{HeldOf, RowHold, DatumHold, IsHeld, put, row_hold_cmp, datum_hold_cmp}
+
+-- the unit of the scopes of an opening, which is the number of no unit
+abbrev pub nobody : ℕ
+nobody = 2 ^ 32 - 1
+
+-- what an opening lists: scopes, edges, data, the rows and the unset data that units hold, and how many units there are
+pub record OpeningOf (D : Type 0) : Type 0 where
+  pub scopes : List Scope
+  pub edges : List Edge
+  pub given : List (Scope × D)
+  pub row_holds : List RowHold
+  pub datum_holds : List DatumHold
+  pub units : ℕ
+
+-- the scopes that get a datum, at the opening or later
+abbrev pub data_of : {D : Type 0} → OpeningOf D → List Scope
+data_of o = map (λ p. p.0) o.given ++ map (λ k. k.scope) o.datum_holds
+
+-- scopes are distinct and are nobody's; each scope that is named is listed; labels are below 16; a scope has one datum at most, given or held;
+-- holders are units; and there are fewer units than nobody's number
+pub record IsSoundOpening {D : Type 0} (o : OpeningOf D) : Type 0 where
+  pub distinct : IsDistinct o.scopes
+  pub nobodys : (s : Scope) → Contains o.scopes s → s.unit ≡ nobody
+  pub edges : (e : Edge) → Contains o.edges e → Contains o.scopes e.from × (e.label < 16) × Contains o.scopes e.to
+  pub given : (s : Scope) (d : D) → Contains o.given (s, d) → Contains o.scopes s
+  pub row_holds : (k : RowHold) → Contains o.row_holds k → Contains o.scopes k.scope × (k.label < 16) × (k.unit < o.units)
+  pub datum_holds : (k : DatumHold) → Contains o.datum_holds k → Contains o.scopes k.scope × (k.unit < o.units)
+  pub one_datum : IsDistinct (data_of o)
+  pub few : o.units < nobody
+
+-- the held graph of an opening
+abbrev pub opened_of : {D : Type 0} → OpeningOf D → HeldOf D
+opened_of o = record {
+  graph = record {
+    scopes = fold (put scope_cmp) [] o.scopes;
+    edges = fold (put edge_cmp) [] o.edges;
+    given = fold (put (on (λ p. p.0) scope_cmp)) [] o.given;
+  };
+  row_holds = fold (put row_hold_cmp) [] o.row_holds;
+  datum_holds = fold (put datum_hold_cmp) [] o.datum_holds;
+  made = replicate o.units 0;
+}
+
+-- a held graph with which a run begins: its scopes are nobody's, there are fewer units than nobody's number, and none has made a scope
+pub record IsOpening {D : Type 0} (h : HeldOf D) : Type 0 where
+  pub held : IsHeld h
+  pub nobodys : (s : Scope) → HasScope h.graph s → s.unit ≡ nobody
+  pub few : length h.made < nobody
+  pub unmade : All (λ n. n ≡ 0) h.made
+
+-- the held graph of a sound opening is one with which a run begins
+abbrev pub SoundOpeningsOpen : Type 0 → Type 0
+SoundOpeningsOpen D = (o : OpeningOf D) → IsSoundOpening o → IsOpening (opened_of o)
