@@ -7,8 +7,9 @@ use Rattle.sg_base.specs.Graph.{Edge, IsGraph, HasScope, HasEdge, edge_cmp, edge
 use Rattle.sg_base.specs.State.{IsOpen, Extends, Follows}
 use Rattle.sg_base.proofs.Finite.{Contains-map, map-Contains, Contains-filter, filter-Contains, Contains-flat_map, flat_map-Contains}
 use Rattle.sg_query.specs.declared.answer.Answer.{Answer}
+use Rattle.sg_query.specs.Growth.{LooksAlike}
+use Rattle.sg_query.proofs.Alike.{settled_over, answer_over, follows_alike}
 use Rattle.jv_strata.specs.Program.{Program, IsProgram, row_edges, state_of, graph_of, AnswersSettled}
-use Rattle.jv_strata.proofs.Seen.{IsSeen, settled_seen, answer_seen, follows_seen}
 use Rattle.jv_strata.proofs.Sets.{set_holds, set_rises, equal_edge}
 
 -- an edge to a supertype
@@ -133,8 +134,8 @@ module _ {Q D : Type 0} (p : Program Q D) where
     -- what is settled stays settled, with its answer, where more types have their supertypes
     pub settled_moves : (first : Scope → Bool) (row : Scope → List Scope) (second : Scope → Bool) (row' : Scope → List Scope) → IsPart first row second row' → Inside first row → (q : Q) (a : Answer D) → HasScope p.skeleton (p.asked q).start → AnswersSettled p (state_of p first row) q a → AnswersSettled p (state_of p second row') q a
     settled_moves first row second row' part inside q a start s =
-        let sees : IsSeen (state_of p first row) (state_of p second row') (p.asked q) =
-        follows_seen (state_of p first row) (state_of p second row') (p.asked q) (is_graph first row inside) start (later first row second row' part) in (
-          settled_seen (state_of p first row) (state_of p second row') (p.asked q) sees s.0,
-          answer_seen (state_of p first row) (state_of p second row') (p.asked q) sees s.0 a s.1,
+        let alike : LooksAlike (state_of p first row) (state_of p second row') (p.asked q) =
+        follows_alike (state_of p first row) (state_of p second row') (p.asked q) (is_graph first row inside) start (later first row second row' part) in (
+          settled_over (state_of p first row) (state_of p second row') (p.asked q) alike s.0,
+          (answer_over (state_of p first row) (state_of p second row') (p.asked q) alike s.0 a).1 s.1,
         )

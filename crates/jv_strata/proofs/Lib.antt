@@ -1,9 +1,7 @@
 pub mod Greatest
 pub mod Growing
-pub mod Growth
 pub mod Honest
 pub mod Moments
 pub mod Ranks
 pub mod Running
-pub mod Seen
 pub mod Sets

@@ -13,6 +13,8 @@ use Rattle.sg_expr.specs.Word.{In, IsViable}
 use Rattle.sg_query.specs.declared.answer.Answer.{Answer}
 use Rattle.sg_query.specs.Answer.{IsAnswer}
 use Rattle.sg_query.specs.State.{IsSettled}
+use Rattle.sg_query.specs.Growth.{LooksAlike}
+use Rattle.sg_query.proofs.Alike.{viable_from_in, viable_before, closed_over, settled_over, answer_over}
 use Rattle.sg_reading.specs.Reading.{AllAsked}
 use Rattle.sg_reading.proofs.Readings.{Gives-within, Gives-ends, Asks-within, Asks-kind, AllAsked-both}
 use Rattle.jv_strata.specs.Law.{ClosedHeadersAreGreatest, WaitingHeadersAreOpen}
@@ -22,7 +24,6 @@ use Rattle.jv_strata.specs.Strata.{lower, IsStratified, IsGreatest}
 use Rattle.jv_strata.proofs.Greatest.{stuck_is_greatest, state_of-agree}
 use Rattle.jv_strata.proofs.Growing.{Inside, edge_cases, settled_moves}
 use Rattle.jv_strata.proofs.Ranks.{and_left, and_right, and_both}
-use Rattle.jv_strata.proofs.Seen.{IsSeen, viable_from_in, viable_before, settled_seen, answer_seen, closed_over}
 
 module _ {Q D : Type 0} (p : Program Q D) where
   -- no word that a plain query follows has a step to a signature
@@ -49,8 +50,8 @@ module _ {Q D : Type 0} (p : Program Q D) where
         pub end_clear : (ps : List Step) → IsClosedPath h (p.asked q).start ps → In (p.asked q).expr (word_of ps) → Contains p.signatures (end_of (p.asked q).start ps) → ⊥
         end_clear ps c i = no_end (p.asked q).start ps plain.start (labels q plain (word_of ps) (viable_from_in (p.asked q).expr (word_of ps) i)) (c.0).0 c.1
 
-        pub seen : IsSeen h (state_of p closed row) (p.asked q)
-        seen = record {
+        pub looks_alike : LooksAlike h (state_of p closed row) (p.asked q)
+        looks_alike = record {
           edges = λ ps l t c v o. m.edges (end_of (p.asked q).start ps) l t (last_label q plain (word_of ps) l v) o;
           rows = λ ps l c v o. m.open_there (end_of (p.asked q).start ps) l o;
           given = λ ps d c i u. m.given (end_of (p.asked q).start ps) d (end_clear ps c i);
@@ -76,10 +77,10 @@ module _ {Q D : Type 0} (p : Program Q D) (ok : IsProgram p) (quiet : IsQuiet p)
   -- what is settled at a moment, the rows closed before it settle
   at_moment : (n : ℕ) → n ≤ run.last → (q : Q) → IsPlain p q → (a : Answer D) → IsSettled (run.at n) (p.asked q) → IsAnswer (run.at n).graph (p.asked q) a → AnswersSettled p (state_of p (closed_before in_set run.moment n) row) q a
   at_moment n below q plain a s k =
-      let sees : IsSeen (run.at n) (state_of p (closed_before in_set run.moment n) row) (p.asked q) =
-      seen p quiet (closed_before in_set run.moment n) row (λ c i m. rows_clear c i (and_left (in_set c) (nat_lt (run.moment c) n) m)) (run.at n) (run.moments n below) q plain in (
-        settled_seen (run.at n) (state_of p (closed_before in_set run.moment n) row) (p.asked q) sees s,
-        answer_seen (run.at n) (state_of p (closed_before in_set run.moment n) row) (p.asked q) sees s a k,
+      let alike : LooksAlike (run.at n) (state_of p (closed_before in_set run.moment n) row) (p.asked q) =
+      looks_alike p quiet (closed_before in_set run.moment n) row (λ c i m. rows_clear c i (and_left (in_set c) (nat_lt (run.moment c) n) m)) (run.at n) (run.moments n below) q plain in (
+        settled_over (run.at n) (state_of p (closed_before in_set run.moment n) row) (p.asked q) alike s,
+        (answer_over (run.at n) (state_of p (closed_before in_set run.moment n) row) (p.asked q) alike s a).1 k,
       )
 
   stratified : IsStratified p in_set row
@@ -130,11 +131,11 @@ module _ {Q D : Type 0} (p : Program Q D) (ok : IsProgram p) (quiet : IsQuiet p)
         unset = m.unset;
       }
 
-  -- what a plain query sees at the end, it sees by the set alone, and the other way round
-  forth : (q : Q) → IsPlain p q → IsSeen (run.at run.last) (state_of p in_set row) (p.asked q)
-  forth q plain = seen p quiet in_set row rows_clear (run.at run.last) at_last q plain
+  -- what a plain query alike at the end, it alike by the set alone, and the other way round
+  forth : (q : Q) → IsPlain p q → LooksAlike (run.at run.last) (state_of p in_set row) (p.asked q)
+  forth q plain = looks_alike p quiet in_set row rows_clear (run.at run.last) at_last q plain
 
-  back : (q : Q) → IsPlain p q → IsSeen (state_of p in_set row) (run.at run.last) (p.asked q)
+  back : (q : Q) → IsPlain p q → LooksAlike (state_of p in_set row) (run.at run.last) (p.asked q)
   back q plain = record {
     edges = λ ps l t c v o.
         let n : l ≢ p.signature_label = last_label p q plain (word_of ps) l v in
@@ -156,17 +157,17 @@ module _ {Q D : Type 0} (p : Program Q D) (ok : IsProgram p) (quiet : IsQuiet p)
         (λ d j l. rows_inside d j (and_left (in_set d) (nat_lt (run.moment d) by.time) l))
         q a fits.0 (at_moment by.time by.before q fits.1 a by.settled by.answer))
         w.0,
-    λ s. w.1 (settled_seen (state_of p in_set row) (run.at run.last) (p.asked q) (back q (Asks-kind (IsPlain p) (AnsweredBy p run.at run.last) (p.header c) q (quiet.asks c i) w.0)) s),
+    λ s. w.1 (settled_over (state_of p in_set row) (run.at run.last) (p.asked q) (back q (Asks-kind (IsPlain p) (AnsweredBy p run.at run.last) (p.header c) q (quiet.asks c i) w.0)) s),
   )
 
-  -- what blocks a plain query stays where two states are seen alike
-  blocks : (h h' : State D) (q : Q) → IsSeen h h' (p.asked q) → ((s : Scope) (l : ℕ) → l ≢ p.signature_label → IsOpen h s l → IsOpen h' s l) → IsPlain p q → (t : Scope) → IsNeeded p h q t → IsNeeded p h' q t
-  blocks h h' q sees opens plain t n =
+  -- what blocks a plain query stays where two states look alike
+  blocks : (h h' : State D) (q : Q) → LooksAlike h h' (p.asked q) → ((s : Scope) (l : ℕ) → l ≢ p.signature_label → IsOpen h s l → IsOpen h' s l) → IsPlain p q → (t : Scope) → IsNeeded p h q t → IsNeeded p h' q t
+  blocks h h' q alike opens plain t n =
       let b = n.1 in (
         n.0,
         (
           b.0,
-          closed_over h h' (p.asked q) sees b.0 b.1 (viable_before (p.asked q).expr (word_of b.0) p.super_label b.3),
+          closed_over h h' (p.asked q) alike b.0 b.1 (viable_before (p.asked q).expr (word_of b.0) p.super_label b.3),
           b.2,
           b.3,
           opens t p.super_label (last_label p q plain (word_of b.0) p.super_label b.3) b.4,

@@ -2,28 +2,17 @@
 use Rattle.std.specs.Prelude.{◌≡◌, ℕ, List, Bool, false, IsTrue, ◌↔◌}
 use Rattle.std.specs.List.{Contains}
 use Rattle.sg_base.specs.declared.scope.Scope.{Scope}
-use Rattle.sg_base.specs.Graph.{GraphOf, IsGraph, HasScope}
-use Rattle.sg_base.specs.State.{State, Extends, Follows}
+use Rattle.sg_base.specs.Graph.{GraphOf, IsGraph}
+use Rattle.sg_base.specs.State.{State}
 use Rattle.sg_query.specs.declared.answer.Answer.{Answer}
 use Rattle.sg_query.specs.Query.{Asked}
 use Rattle.sg_query.specs.Answer.{IsAnswer}
 use Rattle.sg_query.specs.State.{IsSettled}
 use Rattle.sg_reading.specs.Reading.{Reading, Gives}
-use Rattle.jv_strata.specs.Growth.{StillBlocked}
 use Rattle.jv_strata.specs.Program.{Program, IsProgram, IsQuiet, state_of, graph_of, AnswersIn, IsFirstOpen, IsNeeded}
 use Rattle.jv_strata.specs.Run.{AnsweredBy, IsHeaderRun, WaitsFor}
 use Rattle.jv_strata.specs.Strata.{IsStratified, IsGreatest}
 use Rattle.jv_strata.specs.Unit.{Event, asked, closed, Told, IsLawful, IsHonest}
-
--- a query that is settled stays so in every later state, with its answer
-abbrev pub SettledQueriesStaySettled : Type 0 → Type 0
-SettledQueriesStaySettled D =
-    (h h' : State D) (q : Asked D) (a : Answer D) → IsGraph h.graph → HasScope h.graph q.start → Follows h h' → IsSettled h q → IsAnswer h.graph q a → IsSettled h' q × IsAnswer h'.graph q a
-
--- a query that is not settled stays so while all that blocked it is still open
-abbrev pub WaitingQueriesStayOpen : Type 0 → Type 0
-WaitingQueriesStayOpen D =
-    (h h' : State D) (q : Asked D) → IsGraph h.graph → HasScope h.graph q.start → Extends h h'.graph → StillBlocked h h' q → (IsSettled h q → ⊥) → IsSettled h' q → ⊥
 
 -- the supertypes of a stratified set make a sound graph
 abbrev pub StratifiedGraphsAreSound : Type 0 → Type 0 → Type 0

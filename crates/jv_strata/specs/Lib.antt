@@ -1,4 +1,3 @@
-pub mod Growth
 pub mod Law
 pub mod List
 pub mod Program

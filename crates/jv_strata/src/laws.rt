@@ -1,8 +1,6 @@
 //! Laws of headers, each the contract of a function that does nothing. `Q` is what a query is, and `D` a datum.
 
 ghost use Rattle.jv_strata.specs.Law.{
-  SettledQueriesStaySettled,
-  WaitingQueriesStayOpen,
   StratifiedGraphsAreSound,
   StratifiedGraphsAreUnique,
   StratifiedRowsStand,
@@ -15,13 +13,6 @@ ghost use Rattle.jv_strata.specs.Law.{
   LawfulUnitsRead,
   LawfulUnitsWait,
 };
-
-/// While the graph grows, a settled query keeps its answer, and one that waits stays open as long as all that it waits
-/// for.
-pub fn queries_settle_once<D>()
-    ensures settled { SettledQueriesStaySettled D }
-    ensures waiting { WaitingQueriesStayOpen D }
-{}
 
 /// Two stratified pairs with one set have equal graphs, whatever their ranks, in which each header gives what it gave.
 pub fn stratified_graphs_are_unique<Q, D>()

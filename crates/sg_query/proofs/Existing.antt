@@ -1,5 +1,5 @@
 -- Each query has an answer in a sound graph.
-use Rattle.std.proofs.Common.{◌≡◌, ℕ, zero, suc, ◌≤◌, ◌+◌, ◌-◌, List, [], ◌∷◌, ◌++◌, ◌⊎◌, ◌↔◌, Bool, IsTrue, inl, inr, refl, sym, subst, length, map, arith}
+use Rattle.std.proofs.Common.{◌≡◌, ℕ, zero, suc, ◌≤◌, ◌+◌, ◌-◌, List, [], ◌∷◌, ◌++◌, ◌⊎◌, ◌↔◌, Bool, IsTrue, inl, inr, refl, sym, ap, ◌∙◌, subst, length, map, arith, length-append}
 use Rattle.std.proofs.lemmas.Bool.{cases_Bool, cases_lt}
 use Rattle.std.proofs.lemmas.List.{append-nil}
 use Rattle.std.specs.List.{Contains}
@@ -22,13 +22,13 @@ use Rattle.sg_query.specs.declared.found.Found.{Found}
 use Rattle.sg_query.specs.Answer.{most_paths, IsAnswer, found_cmp}
 use Rattle.sg_query.specs.Law.{AnswersExist}
 use Rattle.sg_query.specs.Query.{Asked}
-use Rattle.sg_query.specs.Walk.{IsGoing, IsFound, AreArrived, GoesOnFrom, next_paths}
+use Rattle.sg_query.specs.Walk.{IsGoing, IsFound, AreArrived, GoesOnFrom, one_more}
 use Rattle.sg_query.proofs.Answering.{visible_paths}
 use Rattle.sg_query.proofs.Deciding.{both, holds, belongs, continues, comes_before, some_of, datum_at, gather}
 use Rattle.sg_query.proofs.Gathering.{length-GathersOn}
 use Rattle.sg_query.proofs.Shadowing.{IsShown, shown_once, shown_all}
 use Rattle.sg_query.proofs.Sorting.{found_total}
-use Rattle.sg_query.proofs.Walking.{WalkedTo, walked_first, walked_next, too_many_go, not_too_many, all_found}
+use Rattle.sg_query.proofs.Walking.{Walked, walked_first, walked_next, too_many_go, not_too_many, all_found}
 
 -- ---- sorting
 
@@ -102,6 +102,14 @@ module _ {D : Type 0} where
 
 -- ---- walking
 
+last_of : (pss : List (List Step)) → (pss ≡ []) ⊎ ((rest : List (List Step)) × (p : List Step) × (pss ≡ rest ++ p ∷ []))
+last_of [] = inl refl
+last_of (q ∷ pss) =
+    elim (last_of pss) [
+      | inl none ↦ inr ([], q, ap (λ (t : List (List Step)). q ∷ t) none)
+      | inr h ↦ inr (q ∷ h.0, h.1, ap (λ (t : List (List Step)). q ∷ t) h.2)
+    ]
+
 -- how a walk ends
 abbrev Ends : {D : Type 0} → GraphOf D → Expr → Scope → (D → Bool) → ℕ → Type 0
 Ends {D} g e start wants most =
@@ -127,21 +135,36 @@ module _ {D : Type 0} (g : GraphOf D) (ok : IsGraph g) (e : Expr) (start : Scope
         ]
       ]
 
-  walk : (fuel n : ℕ) (level : List (List Step)) (found : List (Found D)) (count : ℕ) → WalkedTo g ok e start wants n level found count → count + length level ≤ most → most ≤ count + fuel → Ends g e start wants most
-  walk fuel n [] found count w fits enough =
-      inr (found, not_too_many g ok e start wants n found count w most (omega (arith, fits)), all_found g ok e start wants n found count w)
-  walk zero n (p ∷ level) found count w fits enough = absurd (omega (arith, fits, enough))
-  walk (suc fuel) n (p ∷ level) found count w fits enough =
-      let pss = next_paths g start (p ∷ level) in
-      let going = gather (IsGoing e) going_at pss in
-      let new = gather (IsFound g e wants start) found_at pss in
-      elim (cases_lt most (count + length (p ∷ level) + length going.0)) [
-        | inl over ↦
-            inl (too_many_go g ok e start wants n (p ∷ level) found count w most (most - (count + length (p ∷ level))) pss [] going.0 (sym (append-nil pss)) (going.0, refl, going.1) (omega (arith, fits)) (omega (arith, over, fits)))
-        | inr within ↦
-            walk fuel (n + 1) going.0 (found ++ new.0) (count + length (p ∷ level))
-            (walked_next g ok e start wants n (p ∷ level) found count w going.0 (found ++ new.0) (going.0, refl, going.1) (new.0, refl, new.1))
-            (omega (arith, within)) (omega (arith, enough))
+  ended : (done left : List (List Step)) (found : List (Found D)) → Walked g ok e start wants done left found → length done + length left ≤ most → left ≡ [] → Ends g e start wants most
+  ended done left found w fits none =
+      let last : Walked g ok e start wants done [] found = subst (λ (t : List (List Step)). Walked g ok e start wants done t found) none w in
+      inr (found, not_too_many g ok e start wants done found last most (omega (arith, fits)), all_found g ok e start wants done found last)
+
+  walk : (fuel : ℕ) (done left : List (List Step)) (found : List (Found D)) → Walked g ok e start wants done left found → length done + length left ≤ most → most ≤ length done + fuel → Ends g e start wants most
+  walk zero done left found w fits enough =
+      elim (last_of left) [
+        | inl none ↦ ended done left found w fits none
+        | inr s ↦ absurd (omega (arith, fits, enough, ap length s.2, length-append s.0 (s.1 ∷ [])))
+      ]
+  walk (suc fuel) done left found w fits enough =
+      elim (last_of left) [
+        | inl none ↦ ended done left found w fits none
+        | inr s ↦
+            let rest = s.0 in
+            let p = s.1 in
+            let there : Walked g ok e start wants done (rest ++ p ∷ []) found = subst (λ (t : List (List Step)). Walked g ok e start wants done t found) s.2 w in
+            let size : length left ≡ length rest + 1 = ap length s.2 ∙ length-append rest (p ∷ []) in
+            let pss = one_more g start p in
+            let going = gather (IsGoing e) going_at pss in
+            let new = gather (IsFound g e wants start) found_at pss in
+            elim (cases_lt most (length done + 1 + length (rest ++ going.0))) [
+              | inl over ↦
+                  inl (too_many_go g ok e start wants done rest p found there most (most - (length done + 1)) pss [] (rest ++ going.0) (sym (append-nil pss)) (going.0, refl, going.1) (omega (arith, fits, size)) (omega (arith, over, fits, size)))
+              | inr within ↦
+                  walk fuel (p ∷ done) (rest ++ going.0) (found ++ new.0)
+                  (walked_next g ok e start wants done rest p found there (rest ++ going.0) (found ++ new.0) (going.0, refl, going.1) (new.0, refl, new.1))
+                  (omega (arith, within)) (omega (arith, enough))
+            ]
       ]
 
   ends : 1 ≤ most → Ends g e start wants most
@@ -149,7 +172,7 @@ module _ {D : Type 0} (g : GraphOf D) (ok : IsGraph g) (e : Expr) (start : Scope
       let going = gather (IsGoing e) going_at ([] ∷ []) in
       let new = gather (IsFound g e wants start) found_at ([] ∷ []) in
       let short = length-GathersOn (IsGoing e) ([] ∷ []) going.0 (going.0, refl, going.1) in
-      walk most 0 going.0 new.0 0 (walked_first g ok e start wants going.0 new.0 (going.0, refl, going.1) (new.0, refl, new.1)) (omega (arith, short, few)) (omega arith)
+      walk most [] going.0 new.0 (walked_first g ok e start wants going.0 new.0 (going.0, refl, going.1) (new.0, refl, new.1)) (omega (arith, short, few)) (omega arith)
 
 module _ {D : Type 0} (g : GraphOf D) (q : Asked D) where
   shown_at : (all : List (Found D)) (f : Found D) → ((h : Found D) × IsShown q.same q.order all f h) ⊎ ((h : Found D) → IsShown q.same q.order all f h → ⊥)

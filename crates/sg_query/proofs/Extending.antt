@@ -12,9 +12,8 @@ use Rattle.sg_base.specs.List.{IsDistinct}
 use Rattle.sg_base.specs.Path.{end_of}
 use Rattle.sg_base.proofs.Edges.{row_from, row_to, Distinct-row}
 use Rattle.sg_base.proofs.Finite.{nothing_in, single, Contains-head, Distinct-append, Contains-flat_map, flat_map-Contains, Distinct-flat_map}
-use Rattle.sg_query.specs.declared.going.Going.{Going}
 use Rattle.sg_query.specs.Steps.{is_fresh}
-use Rattle.sg_query.specs.Walk.{labels_below, into_scope, into_row, one_more, next_paths, steps_of, paths_behind}
+use Rattle.sg_query.specs.Walk.{labels_below, into_scope, into_row, one_more}
 use Rattle.sg_query.proofs.Paths.{snoc_same}
 
 -- ---- parts of a joined list
@@ -52,7 +51,7 @@ labels_from (suc n) l c =
       | inr k ↦ let h : l ≡ n = single n l k in omega arith
     ]
 
-labels_to : (n l : ℕ) → l < n → Contains (labels_below n) l
+pub labels_to : (n l : ℕ) → l < n → Contains (labels_below n) l
 labels_to zero l h = absurd (omega arith)
 labels_to (suc n) l h =
     elim (cases_lt l n) [
@@ -60,7 +59,7 @@ labels_to (suc n) l h =
       | inr k ↦ let same : n ≡ l = omega arith in subst (λ (m : ℕ). Contains (labels_below n ++ n ∷ []) m) same (Contains-push (labels_below n) n)
     ]
 
-labels_distinct : (n : ℕ) → IsDistinct (labels_below n)
+pub labels_distinct : (n : ℕ) → IsDistinct (labels_below n)
 labels_distinct zero = tt
 labels_distinct (suc n) =
     Distinct-append (labels_below n) (n ∷ []) (labels_distinct n) ((λ c. nothing_in n c), tt)
@@ -79,11 +78,6 @@ module _ {D : Type 0} (g : GraphOf D) (start : Scope) (ps : List Step) (n : ℕ)
   row_rest l =
       let h = labels_split n 16 l in
       (flat_map (into_row g start ps) h.0, ap (flat_map (into_row g start ps)) h.1 ∙ flat_map-append (into_row g start ps) (labels_below n) (n ∷ h.0))
-
--- the paths behind others, by the steps of those
-pub behind_is : {D : Type 0} (g : GraphOf D) (start : Scope) (level : List Going) → paths_behind g start level ≡ next_paths g start (steps_of level)
-behind_is g start [] = refl
-behind_is g start (x ∷ level) = ap (λ (t : List (List Step)). one_more g start x.steps ++ t) (behind_is g start level)
 
 -- ---- one more step
 
@@ -123,24 +117,18 @@ module _ {D : Type 0} (g : GraphOf D) (ok : IsGraph g) (start : Scope) where
       let k = scope_from start p l h.0 qs h.2 in
       (h.0, row_from g (end_of start p) l h.0 h.1, k.0, k.1)
 
-  one_from : (p qs : List Step) → Contains (one_more g start p) qs → Grows p qs
+  pub one_from : (p qs : List Step) → Contains (one_more g start p) qs → Grows p qs
   one_from p qs c =
       let h = Contains-flat_map (into_row g start p) (labels_below 16) qs c in
       let k = into_from p h.0 qs h.2 in
       (record { label = h.0; to = k.0 }, k.1, k.2, k.3)
 
-  one_to : (p qs : List Step) → Grows p qs → Contains (one_more g start p) qs
+  pub one_to : (p qs : List Step) → Grows p qs → Contains (one_more g start p) qs
   one_to p qs k =
       let x = k.0 in
       subst (λ (t : List Step). Contains (one_more g start p) t) (sym k.3)
       (flat_map-Contains (into_row g start p) (labels_below 16) x.label (p ++ x ∷ []) (labels_to 16 x.label (ok.labelled (end_of start p) x.label x.to k.1))
       (flat_map-Contains (into_scope start p x.label) (row_of g (end_of start p) x.label) x.to (p ++ x ∷ []) (row_to g (end_of start p) x.label x.to k.1) (scope_to start p x.label x.to k.2)))
-
-  pub next_from : (pss : List (List Step)) (qs : List Step) → Contains (next_paths g start pss) qs → (p : List Step) × Contains pss p × Grows p qs
-  next_from pss qs c = let h = Contains-flat_map (one_more g start) pss qs c in (h.0, h.1, one_from h.0 qs h.2)
-
-  pub next_to : (pss : List (List Step)) (p qs : List Step) → Contains pss p → Grows p qs → Contains (next_paths g start pss) qs
-  next_to pss p qs c k = flat_map-Contains (one_more g start) pss p qs c (one_to p qs k)
 
   into_distinct : (p : List Step) (l : ℕ) → IsDistinct (into_row g start p l)
   into_distinct p l =
@@ -148,13 +136,8 @@ module _ {D : Type 0} (g : GraphOf D) (ok : IsGraph g) (start : Scope) where
       (λ a b qs k m. let x = scope_from start p l a qs k in let y = scope_from start p l b qs m in
       ap (λ (s : Step). s.to) (snoc_same p p (record { label = l; to = a }) (record { label = l; to = b }) (sym x.1 ∙ y.1)).1)
 
-  one_distinct : (p : List Step) → IsDistinct (one_more g start p)
+  pub one_distinct : (p : List Step) → IsDistinct (one_more g start p)
   one_distinct p =
       Distinct-flat_map (into_row g start p) (labels_below 16) (labels_distinct 16) (λ l k. into_distinct p l)
       (λ a b qs k m. let x = into_from p a qs k in let y = into_from p b qs m in
       ap (λ (s : Step). s.label) (snoc_same p p (record { label = a; to = x.0 }) (record { label = b; to = y.0 }) (sym x.3 ∙ y.3)).1)
-
-  pub next_distinct : (pss : List (List Step)) → IsDistinct pss → IsDistinct (next_paths g start pss)
-  next_distinct pss d =
-      Distinct-flat_map (one_more g start) pss d (λ p k. one_distinct p)
-      (λ a b qs k m. let x = one_from a qs k in let y = one_from b qs m in (snoc_same a b x.0 y.0 (sym x.3 ∙ y.3)).0)

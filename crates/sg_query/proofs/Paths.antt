@@ -50,20 +50,6 @@ snoc_of (q ∷ r ∷ rs) (suc n) h =
     let k : (p : List Step) × (x : Step) × (r ∷ rs ≡ p ++ x ∷ []) × (length p ≡ n) = snoc_of (r ∷ rs) n (omega arith) in
     (q ∷ k.0, k.1, ap (λ (t : List Step). q ∷ t) k.2, ap suc k.3)
 
-pub split_at : (n : ℕ) (ps : List Step) → n ≤ length ps → (p : List Step) × (q : List Step) × (ps ≡ p ++ q) × (length p ≡ n)
-split_at zero ps h = ([], ps, refl, refl)
-split_at (suc n) [] h = absurd (omega arith)
-split_at (suc n) (x ∷ ps) h =
-    let k : (p : List Step) × (q : List Step) × (ps ≡ p ++ q) × (length p ≡ n) = split_at n ps (omega arith) in
-    (x ∷ k.0, k.1, ap (λ (t : List Step). x ∷ t) k.2, ap suc k.3)
-
-pub split_before : (n : ℕ) (ps : List Step) → n < length ps → (p : List Step) × (x : Step) × (q : List Step) × (ps ≡ p ++ x ∷ q) × (length p ≡ n)
-split_before n [] h = absurd (omega arith)
-split_before zero (x ∷ ps) h = ([], x, ps, refl, refl)
-split_before (suc n) (y ∷ ps) h =
-    let k : (p : List Step) × (x : Step) × (q : List Step) × (ps ≡ p ++ x ∷ q) × (length p ≡ n) = split_before n ps (omega arith) in
-    (y ∷ k.0, k.1, k.2, ap (λ (t : List Step). y ∷ t) k.3, ap suc k.4)
-
 -- the scopes of a path's front are distinct
 pub front_distinct : (s : Scope) (ps qs : List Step) → IsDistinct (s ∷ reached_by (ps ++ qs)) → IsDistinct (s ∷ reached_by ps)
 front_distinct s ps qs d = Distinct-left (s ∷ reached_by ps) (reached_by qs) (rw reached_by-append at d)
@@ -108,7 +94,7 @@ or_right : (a b : Bool) → b ≡ true → (a || b) ≡ true
 or_right true b h = refl
 or_right false b h = h
 
-any_from : (ps : List Step) (t : Scope) → list_any (λ p. is_scope p.to t) ps ≡ true → Contains (reached_by ps) t
+pub any_from : (ps : List Step) (t : Scope) → list_any (λ p. is_scope p.to t) ps ≡ true → Contains (reached_by ps) t
 any_from [] t h = absurd (cc)
 any_from (p ∷ ps) t h =
     elim (cases_Bool (is_scope p.to t)) [

@@ -1,4 +1,6 @@
 pub mod Answer
+pub mod Example
+pub mod Growth
 pub mod Law
 pub mod Query
 pub mod Shadow

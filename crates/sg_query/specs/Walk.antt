@@ -1,6 +1,6 @@
 -- The paths of a graph, one step after another, and what a walk keeps of them.
-use Rattle.std.specs.Prelude.{◌≡◌, ℕ, zero, suc, ◌<◌, ◌≤◌, List, [], ◌∷◌, ◌++◌, Bool, if◌then◌else◌, map, ◌⊎◌, IsTrue, length, MatchBool, ◌↔◌}
-use Rattle.std.specs.List.{All, Contains, flat_map}
+use Rattle.std.specs.Prelude.{◌≡◌, ℕ, zero, suc, ◌<◌, ◌≤◌, List, [], ◌∷◌, ◌++◌, Bool, if◌then◌else◌, map, ◌⊎◌, IsTrue, length, take, MatchBool, ◌↔◌}
+use Rattle.std.specs.List.{AllByRecursion, Contains, flat_map}
 use Rattle.sg_base.specs.declared.scope.Scope.{Scope}
 use Rattle.sg_base.specs.declared.step.Step.{Step}
 use Rattle.sg_base.specs.Graph.{GraphOf, HasDatum, IsPath, row_of}
@@ -12,7 +12,7 @@ use Rattle.sg_expr.specs.Word.{In, IsContinuable}
 use Rattle.sg_query.specs.declared.found.Found.{Found}
 use Rattle.sg_query.specs.declared.going.Going.{Going}
 use Rattle.sg_query.specs.declared.walk.Seen.{Seen}
-use Rattle.sg_query.specs.Steps.{is_fresh}
+use Rattle.sg_query.specs.Steps.{is_fresh, if_any}
 
 -- all labels below a number
 abbrev pub labels_below : ℕ → List ℕ
@@ -31,21 +31,26 @@ into_row g start ps l = flat_map (into_scope start ps l) (row_of g (end_of start
 abbrev pub one_more : {D : Type 0} → GraphOf D → Scope → List Step → List (List Step)
 one_more g start ps = flat_map (into_row g start ps) (labels_below 16)
 
--- the paths with one more step
-abbrev pub next_paths : {D : Type 0} → GraphOf D → Scope → List (List Step) → List (List Step)
-next_paths g start pss = flat_map (one_more g start) pss
+-- the steps of a path, of which some first ones are those of the walk
+abbrev pub path_at : List Step → Going → List Step
+path_at ps x = take x.depth ps ++ if_any x.last
 
 -- the steps of these paths
-abbrev pub steps_of : List Going → List (List Step)
-steps_of xs = map (λ x. x.steps) xs
+abbrev pub paths_of : List Step → List Going → List (List Step)
+paths_of ps xs = map (path_at ps) xs
 
--- the paths with one more step than these
-abbrev pub paths_behind : {D : Type 0} → GraphOf D → Scope → List Going → List (List Step)
-paths_behind g start level = flat_map (λ x. one_more g start x.steps) level
+-- the expression has the words that may follow the word of these steps in the first one
+abbrev pub IsRest : Expr → List Step → Expr → Type 0
+IsRest e ps rest = (w : Word) → (In rest w) ↔ (In e (word_of ps ++ w))
 
--- the rest of the path has the words that may follow its word in the expression
-abbrev pub HasRest : Expr → Going → Type 0
-HasRest e x = (w : Word) → (In x.rest w) ↔ (In e (word_of x.steps ++ w))
+-- the rest of a path has the words that may follow its word
+abbrev pub HasRest : Expr → List Step → Going → Type 0
+HasRest e ps x = IsRest e (path_at ps x) x.rest
+
+-- each path begins with no more of n steps than those behind it
+abbrev pub AreNested : ℕ → List Going → Type 0
+AreNested n [] = Unit {0}
+AreNested n (x ∷ xs) = (x.depth ≤ n) × AllByRecursion (λ y. x.depth ≤ y.depth) xs × AreNested n xs
 
 -- the second list has, for each thing of the first in turn, one that belongs to it, where there is one
 abbrev pub Gathers : {X Y : Type 0} → (X → Y → Type 0) → List X → List Y → Type 0
@@ -68,16 +73,18 @@ IsReached g e wants start ps d = In e (word_of ps) × HasDatum g (end_of start p
 abbrev pub IsFound : {D : Type 0} → GraphOf D → Expr → (D → Bool) → Scope → List Step → Found D → Type 0
 IsFound g e wants start ps f = (f.path ≡ record { start = start; steps = ps }) × IsReached g e wants start ps f.datum
 
--- of these paths, those that go on, each with its rest, and those that reach a wanted datum are added to what was seen
-pub record Visits {D : Type 0} (g : GraphOf D) (e : Expr) (wants : D → Bool) (start : Scope) (pss : List (List Step)) (old new : Seen D) : Type 0 where
-  pub going : GathersOn (IsGoing e) pss (steps_of old.going.items) (steps_of new.going.items)
-  pub rests : All (HasRest e) old.going.items → All (HasRest e) new.going.items
+-- where a walk stands on some steps: of these paths, those that go on, each with its rest, and those that reach a wanted datum are added
+-- to what was seen
+pub record Visits {D : Type 0} (g : GraphOf D) (e : Expr) (wants : D → Bool) (start : Scope) (at : List Step) (pss : List (List Step)) (old new : Seen D) : Type 0 where
+  pub going : GathersOn (IsGoing e) pss (paths_of at old.going.items) (paths_of at new.going.items)
+  pub rests : AllByRecursion (HasRest e at) old.going.items → AllByRecursion (HasRest e at) new.going.items
+  pub nested : AreNested (length at) old.going.items → AreNested (length at) new.going.items
   pub found : GathersOn (IsFound g e wants start) pss old.found.items new.found.items
 
 -- all of these paths are visited, or so many that more go on than there is room for
-abbrev pub VisitsWithin : {D : Type 0} → GraphOf D → Expr → (D → Bool) → Scope → List (List Step) → ℕ → Seen D → Seen D → Bool → Type 0
-VisitsWithin g e wants start pss room old new all =
-    MatchBool all (Visits g e wants start pss old new × (length new.going.items ≤ room)) ((front : List (List Step)) × (back : List (List Step)) × (pss ≡ front ++ back) × Visits g e wants start front old new × (room < length new.going.items))
+abbrev pub VisitsWithin : {D : Type 0} → GraphOf D → Expr → (D → Bool) → Scope → List Step → List (List Step) → ℕ → Seen D → Seen D → Bool → Type 0
+VisitsWithin g e wants start at pss room old new all =
+    MatchBool all (Visits g e wants start at pss old new × (length new.going.items ≤ room)) ((front : List (List Step)) × (back : List (List Step)) × (pss ≡ front ++ back) × Visits g e wants start at front old new × (room < length new.going.items))
 
 -- a path of the graph with a word of the expression and a wanted datum at its end
 abbrev pub IsArrived : {D : Type 0} → GraphOf D → Expr → (D → Bool) → Scope → List Step → D → Type 0

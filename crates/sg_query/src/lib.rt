@@ -32,3 +32,4 @@ pub use kind::Kind;
 pub use kind_table::KindTable;
 pub use plain::ans_plain;
 pub use query::Query;
+pub use shadow::visible_of;

@@ -1,16 +1,16 @@
 ghost use Rattle.std.specs.Prelude.{◌≡◌, ◌≤◌, [], ◌∷◌, ◌++◌, length, ◌↔◌, IsTrue, IfOk, OnOk, MatchOption};
-ghost use Rattle.std.specs.List.{All};
 ghost use Rattle.sg_base.specs.Graph.{IsGraph};
 ghost use Rattle.sg_base.specs.List.{MoreThan};
 ghost use Rattle.sg_query.specs.Answer.{most_paths};
-ghost use Rattle.sg_query.specs.Walk.{HasRest, Visits, VisitsWithin, GathersOn, IsReached, IsFound, AreArrived, GoesOnFrom, into_scope, into_row, one_more, paths_behind};
+ghost use Rattle.sg_query.specs.Steps.{if_any};
+ghost use Rattle.sg_query.specs.Walk.{IsRest, Visits, VisitsWithin, GathersOn, IsReached, IsFound, AreArrived, GoesOnFrom, into_scope, into_row, one_more};
 
 use crate::found::Found;
 use crate::going::Going;
-use sg_base::{Graph, Instance, Label, Scope};
+use crate::steps::Steps;
+use sg_base::{Graph, Instance, Label, Scope, Step};
 use sg_expr::Expr;
 use std::alloc::{AllocError, Global};
-use std::mem;
 
 /// How many paths that go on an answer looks at.
 const MOST_PATHS: usize = 4096;
@@ -25,7 +25,8 @@ pub struct Walk<'a, I: Instance> {
     pub start: Scope,
 }
 
-/// What a walk has seen: of the paths of one length those whose words go on, and all paths that reach a wanted datum.
+/// What a walk has seen: the paths that go on and behind which it has still to look, the deepest last, and all paths
+/// that reach a wanted datum.
 #[derive(Drop)]
 struct Seen<D> {
     going: Vec<Going>,
@@ -34,58 +35,59 @@ struct Seen<D> {
 
 impl<I: Instance> Walk<'_, I> {
     /// The paths that reach a wanted datum, or none where more paths go on than an answer looks at.
+    ///
+    /// Walks depth first on one list of steps, so that a path costs its last step and not its length.
     pub fn arrived(&self) -> Result<Option<Vec<Found<I::Datum>>>, AllocError>
         requires { IsGraph self.now.graph.now }
         ensures { IfOk result (λ o. MatchOption o (MoreThan most_paths (GoesOnFrom self.now.graph.now self.now.expr.now self.now.start)) (λ v. (MoreThan most_paths (GoesOnFrom self.now.graph.now self.now.expr.now self.now.start) → ⊥) × AreArrived self.now.graph.now self.now.expr.now (I.wants self.now.pred.now) self.now.start v.items)) }
     {
+        let mut steps = Steps::none(self.alloc);
         let mut seen = Seen {
             going: Vec::new(self.alloc),
             found: Vec::new(self.alloc),
         };
-        self.visit(Going::first(self.alloc, self.expr)?, &mut seen)?;
+        self.visit(&steps, None, self.expr.copy(self.alloc)?, &mut seen)?;
         let mut room = MOST_PATHS;
-        while !seen.going.is_empty() {
-            let level = mem::replace(&mut seen.going, Vec::new(self.alloc));
-            room -= level.len();
-            if !self.visit_behind(&level, room, &mut seen)? {
+        while let Some(going) = seen.going.pop() {
+            let Going { depth, last, rest } = going;
+            room -= 1;
+            steps.go_to(depth, last)?;
+            if !self.visit_behind(&steps, rest, room, &mut seen)? {
                 return Ok(None);
             }
         }
         Ok(Some(seen.found))
     }
 
-    /// Visits the paths with one step more than these, and answers whether there was room for all that go on.
+    /// Visits the paths with one step more than these steps, and answers whether there was room for all that go on.
     fn visit_behind(
         &self,
-        level: &[Going],
+        steps: &Steps,
+        rest: Expr,
         room: usize,
         seen: &mut Seen<I::Datum>,
     ) -> Result<bool, AllocError>
         requires fits { length seen.old.going.items ≤ room }
-        requires rests { All (HasRest self.now.expr.now) level.now }
-        ensures { IfOk result (VisitsWithin self.now.graph.now self.now.expr.now (I.wants self.now.pred.now) self.now.start (paths_behind self.now.graph.now self.now.start level.now) room seen.old seen.new) }
+        requires rest { IsRest self.now.expr.now steps.now rest }
+        ensures { IfOk result (VisitsWithin self.now.graph.now self.now.expr.now (I.wants self.now.pred.now) self.now.start steps.now (one_more self.now.graph.now self.now.start steps.now) room seen.old seen.new) }
     {
-        for going in level {
-            if !self.visit_one_more(going, room, seen)? {
-                return Ok(false);
-            }
-        }
-        Ok(true)
+        self.visit_one_more(steps, &rest, room, seen)
     }
 
-    /// The same for the paths with one step more than this one.
+    /// The same by a borrowed expression.
     fn visit_one_more(
         &self,
-        going: &Going,
+        steps: &Steps,
+        rest: &Expr,
         room: usize,
         seen: &mut Seen<I::Datum>,
     ) -> Result<bool, AllocError>
         requires fits { length seen.old.going.items ≤ room }
-        requires rest { HasRest self.now.expr.now going.now }
-        ensures { IfOk result (VisitsWithin self.now.graph.now self.now.expr.now (I.wants self.now.pred.now) self.now.start (one_more self.now.graph.now self.now.start going.now.steps) room seen.old seen.new) }
+        requires rest { IsRest self.now.expr.now steps.now rest.now }
+        ensures { IfOk result (VisitsWithin self.now.graph.now self.now.expr.now (I.wants self.now.pred.now) self.now.start steps.now (one_more self.now.graph.now self.now.start steps.now) room seen.old seen.new) }
     {
         for number in 0..16 {
-            if !self.visit_row(going, Label::new(number), room, seen)? {
+            if !self.visit_row(steps, rest, Label::new(number), room, seen)? {
                 return Ok(false);
             }
         }
@@ -95,17 +97,18 @@ impl<I: Instance> Walk<'_, I> {
     /// The same for the paths with one step more over a label.
     fn visit_row(
         &self,
-        going: &Going,
+        steps: &Steps,
+        rest: &Expr,
         label: Label,
         room: usize,
         seen: &mut Seen<I::Datum>,
     ) -> Result<bool, AllocError>
         requires fits { length seen.old.going.items ≤ room }
-        requires rest { HasRest self.now.expr.now going.now }
-        ensures { IfOk result (VisitsWithin self.now.graph.now self.now.expr.now (I.wants self.now.pred.now) self.now.start (into_row self.now.graph.now self.now.start going.now.steps label) room seen.old seen.new) }
+        requires rest { IsRest self.now.expr.now steps.now rest.now }
+        ensures { IfOk result (VisitsWithin self.now.graph.now self.now.expr.now (I.wants self.now.pred.now) self.now.start steps.now (into_row self.now.graph.now self.now.start steps.now label) room seen.old seen.new) }
     {
-        for to in self.graph.edges_of(going.steps.end(self.start), label) {
-            self.visit_scope(going, label, *to, seen)?;
+        for to in self.graph.edges_of(steps.end(self.start), label) {
+            self.visit_scope(steps, rest, Step { label, to: *to }, seen)?;
             if seen.going.len() > room {
                 return Ok(false);
             }
@@ -113,61 +116,81 @@ impl<I: Instance> Walk<'_, I> {
         Ok(true)
     }
 
-    /// Visits the path with one step more to a scope, if it passes by there nowhere.
+    /// Visits the path with one step more, if it passes by the step's scope nowhere.
     fn visit_scope(
         &self,
-        going: &Going,
-        label: Label,
-        to: Scope,
+        steps: &Steps,
+        rest: &Expr,
+        step: Step,
         seen: &mut Seen<I::Datum>,
     ) -> Result<(), AllocError>
-        requires { HasRest self.now.expr.now going.now }
-        ensures { OnOk result (Visits self.now.graph.now self.now.expr.now (I.wants self.now.pred.now) self.now.start (into_scope self.now.start going.now.steps label to) seen.old seen.new) }
+        requires { IsRest self.now.expr.now steps.now rest.now }
+        ensures { OnOk result (Visits self.now.graph.now self.now.expr.now (I.wants self.now.pred.now) self.now.start steps.now (into_scope self.now.start steps.now step.label step.to) seen.old seen.new) }
     {
-        if !going.steps.is_fresh(self.start, to) {
+        if !steps.is_fresh(self.start, step.to) {
             return Ok(());
         }
-        self.visit(going.with(self.alloc, label, to)?, seen)?;
+        let rest = rest.after(self.alloc, step.label)?;
+        self.visit(steps, Some(step), rest, seen)?;
         Ok(())
     }
 
-    /// Adds a path to what was seen, where its word goes on, and where it reaches a wanted datum.
-    fn visit(&self, going: Going, seen: &mut Seen<I::Datum>) -> Result<(), AllocError>
-        requires { HasRest self.now.expr.now going }
-        ensures { OnOk result (Visits self.now.graph.now self.now.expr.now (I.wants self.now.pred.now) self.now.start (going.steps ∷ []) seen.old seen.new) }
+    /// Adds the path of the steps, and of the last one if it is given, to what was seen, where its word goes on, and
+    /// where it reaches a wanted datum.
+    fn visit(
+        &self,
+        steps: &Steps,
+        last: Option<Step>,
+        rest: Expr,
+        seen: &mut Seen<I::Datum>,
+    ) -> Result<(), AllocError>
+        requires { IsRest self.now.expr.now (steps.now ++ if_any last) rest }
+        ensures { OnOk result (Visits self.now.graph.now self.now.expr.now (I.wants self.now.pred.now) self.now.start steps.now ((steps.now ++ if_any last) ∷ []) seen.old seen.new) }
     {
-        self.visit_end(&going, seen)?;
-        if going.rest.goes_on() {
-            seen.going.push(going)?;
+        self.visit_end(steps, &last, &rest, seen)?;
+        if rest.goes_on() {
+            let depth = steps.len();
+            seen.going.push(Going { depth, last, rest })?;
         }
         Ok(())
     }
 
-    /// Adds a path to what was found, where it reaches a wanted datum.
-    fn visit_end(&self, going: &Going, seen: &mut Seen<I::Datum>) -> Result<(), AllocError>
-        requires { HasRest self.now.expr.now going.now }
-        ensures found { OnOk result (GathersOn (IsFound self.now.graph.now self.now.expr.now (I.wants self.now.pred.now) self.now.start) (going.now.steps ∷ []) seen.old.found.items seen.new.found.items) }
+    /// Adds the path to what was found, where it reaches a wanted datum.
+    fn visit_end(
+        &self,
+        steps: &Steps,
+        last: &Option<Step>,
+        rest: &Expr,
+        seen: &mut Seen<I::Datum>,
+    ) -> Result<(), AllocError>
+        requires { IsRest self.now.expr.now (steps.now ++ if_any last.now) rest.now }
+        ensures found { OnOk result (GathersOn (IsFound self.now.graph.now self.now.expr.now (I.wants self.now.pred.now) self.now.start) ((steps.now ++ if_any last.now) ∷ []) seen.old.found.items seen.new.found.items) }
         ensures going { seen.new.going ≡ seen.old.going }
     {
-        if let Some(found) = self.found_at(going)? {
+        if let Some(found) = self.found_at(steps, last, rest)? {
             seen.found.push(found)?;
         }
         Ok(())
     }
 
     /// The path with its end's datum, where its word belongs and the datum is wanted.
-    fn found_at(&self, going: &Going) -> Result<Option<Found<I::Datum>>, AllocError>
-        requires { HasRest self.now.expr.now going.now }
-        ensures { IfOk result (λ o. MatchOption o ((d : I.Datum) → IsReached self.now.graph.now self.now.expr.now (I.wants self.now.pred.now) self.now.start going.now.steps d → ⊥) (IsFound self.now.graph.now self.now.expr.now (I.wants self.now.pred.now) self.now.start going.now.steps)) }
+    fn found_at(
+        &self,
+        steps: &Steps,
+        last: &Option<Step>,
+        rest: &Expr,
+    ) -> Result<Option<Found<I::Datum>>, AllocError>
+        requires { IsRest self.now.expr.now (steps.now ++ if_any last.now) rest.now }
+        ensures { IfOk result (λ o. MatchOption o ((d : I.Datum) → IsReached self.now.graph.now self.now.expr.now (I.wants self.now.pred.now) self.now.start (steps.now ++ if_any last.now) d → ⊥) (IsFound self.now.graph.now self.now.expr.now (I.wants self.now.pred.now) self.now.start (steps.now ++ if_any last.now))) }
     {
-        if !going.rest.nullable() {
+        if !rest.nullable() {
             return Ok(None);
         }
-        match self.graph.datum(going.steps.end(self.start)) {
+        match self.graph.datum(steps.end_with(self.start, last)) {
             None => Ok(None),
             Some(datum) => {
                 if I::matches(self.pred, datum) {
-                    let path = going.steps.path(self.alloc, self.start)?;
+                    let path = steps.path(self.alloc, self.start, last)?;
                     let datum = I::copy_datum(self.alloc, datum)?;
                     Ok(Some(Found { path, datum }))
                 } else {

@@ -1,0 +1,116 @@
+//! What the grammar and the load imply: at most one tree derives from shallow terminals, and the readers of `specs/` find
+//! it.
+
+ghost use Rattle.std.specs.Prelude.{ℕ};
+ghost use Rattle.jv_tree.specs.declared.name.Ident.{Ident as Identifier};
+ghost use Rattle.jv_grammar.specs.ExprExample.{ExpressionsAreToldApart};
+ghost use Rattle.jv_grammar.specs.Law.{
+  ExpressionsDeriveOnce,
+  InitializersDeriveOnce,
+  TypesDeriveOnce,
+  ReadersFindExpressions,
+  ReadersFindInitializers,
+  ReadExpressionsDerive,
+  ReadInitializersDerive,
+  ReadTypesDerive,
+  DerivedExpressionsAreShaped,
+  DerivedEffectsAreEffects,
+};
+ghost use Rattle.jv_grammar.specs.FileExample.{FilesAreToldApart};
+ghost use Rattle.jv_grammar.specs.FileLaw.{
+  ReadersFindTrees,
+  ReadTreesDerive,
+  RefusedFilesDeriveNothing,
+  AtMostOneTreeDerives,
+  DerivedTreesAreShaped,
+  ShallowFilesHaveFewPairs,
+  ReadersFindShallowTrees,
+  ShallowFilesDeriveOnce,
+};
+ghost use Rattle.jv_grammar.specs.LoadLaw.{
+  FirstDeepIsOne,
+  IsShallowOrDeep,
+  ShallowLoadsAreLow,
+  FrontsAreShallow,
+  ShallowHasFewBrackets,
+};
+
+/// Shallow terminals derive at most one expression, one initializer and one type.
+pub fn expressions_derive_once()
+    ensures expressions { ExpressionsDeriveOnce }
+    ensures initializers { InitializersDeriveOnce }
+    ensures types { TypesDeriveOnce }
+{}
+
+/// Where shallow terminals derive an expression or an initializer, the readers give it.
+pub fn readers_find_expressions()
+    ensures expressions { ReadersFindExpressions }
+    ensures initializers { ReadersFindInitializers }
+{}
+
+/// Whatever the readers give derives, and has the shape of the grammar.
+pub fn read_expressions_derive()
+    ensures expressions { ReadExpressionsDerive }
+    ensures initializers { ReadInitializersDerive }
+    ensures types { ReadTypesDerive }
+{}
+
+/// What derives from shallow terminals has the shape of the grammar.
+pub fn derived_expressions_are_shaped()
+    ensures expressions { DerivedExpressionsAreShaped }
+    ensures effects { DerivedEffectsAreEffects }
+{}
+
+/// Examples: chains, casts, minimum literals, names and calls, assignments, new arrays, `instanceof` and lists.
+pub fn expressions_are_told_apart()
+    ensures { (a b c : Identifier) (p q r s u v w : ℕ) → ExpressionsAreToldApart a b c p q r s u v w }
+{}
+
+/// Whatever the reader gives derives, and has the shape of the grammar. Where no type has more than 200 pairs of
+/// brackets, the reader gives whatever derives, and refuses nothing that derives.
+pub fn readers_find_trees()
+    ensures derive { ReadTreesDerive }
+    ensures find { ReadersFindTrees }
+    ensures none { RefusedFilesDeriveNothing }
+{}
+
+/// Where no type has more than 200 pairs of brackets, at most one tree derives, and it has the shape of the grammar.
+pub fn at_most_one_tree_derives()
+    ensures one { AtMostOneTreeDerives }
+    ensures shaped { DerivedTreesAreShaped }
+{}
+
+/// No type that derives from shallow terminals has more than 200 pairs of brackets. So they derive at most one tree, which
+/// the reader gives.
+pub fn shallow_files_derive_once()
+    ensures few { ShallowFilesHaveFewPairs }
+    ensures find { ReadersFindShallowTrees }
+    ensures once { ShallowFilesDeriveOnce }
+{}
+
+/// Examples: packages, imports, headers, fields, methods, constructors with and without a call of `super`, interfaces and
+/// their constants, and terminals that derive no file.
+pub fn files_are_told_apart()
+    ensures { (a b c : Identifier) (p q : ℕ) → FilesAreToldApart a b c p q }
+{}
+
+/// Terminals are shallow, or just one of them is the first deep one.
+pub fn first_deep_is_one()
+    ensures one { FirstDeepIsOne }
+    ensures either { IsShallowOrDeep }
+{}
+
+/// A load of 201 is never passed by: the loads of shallow terminals are at most 200.
+pub fn shallow_loads_are_low()
+    ensures { ShallowLoadsAreLow }
+{}
+
+/// Each front of shallow terminals is shallow, though the load of its last terminal may depend on the one behind it.
+pub fn fronts_are_shallow()
+    ensures { FrontsAreShallow }
+{}
+
+/// In shallow terminals no more than 200 pairs of square brackets follow one another, whatever stands in them.
+pub fn shallow_has_few_brackets()
+    ensures { ShallowHasFewBrackets }
+{}

@@ -1,8 +1,0 @@
-use Rattle.jv_strata.proofs.Growth.{settled_stay_settled, waiting_stay_open}
-use Rattle.jv_strata.proofs.laws.queries_settle_once.Goals as goal
-
-pub returns-clause-settled : goal.returns-clause-settled
-returns-clause-settled g c = settled_stay_settled _
-
-pub returns-clause-waiting : goal.returns-clause-waiting
-returns-clause-waiting g c = waiting_stay_open _
