@@ -13,3 +13,10 @@ pub mod Extending
 pub mod Finding
 pub mod Making
 pub mod Freshening
+pub mod OpenLists
+pub mod SoundOpenings
+pub mod FreeNeeds
+pub mod Giving
+pub mod Beginning
+pub mod Soundness
+pub mod Gaining

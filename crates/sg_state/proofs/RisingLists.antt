@@ -28,6 +28,13 @@ keys_rise {K} {V} R (p ∷ ps) up = (
   keys_rise R ps up.1,
 )
 
+pub rises_by_keys : {K V : Type 0} (R : K → K → Ordering) (es : List (K × V)) → IsRising R (map (λ p. p.0) es) → IsRising (on (λ p. p.0) R) es
+rises_by_keys R [] up = tt
+rises_by_keys {K} {V} R (p ∷ ps) up = (
+  each_from (λ q. R p.0 q.0 ≡ Less) ps (λ q c. each_at (λ k. R p.0 k ≡ Less) (map (λ q. q.0) ps) up.0 q.0 (map-Contains (λ (q : K × V). q.0) ps q c)),
+  rises_by_keys R ps up.1,
+)
+
 -- the images of things that rise
 pub rises_map : {X Y : Type 0} (R : X → X → Ordering) (S : Y → Y → Ordering) (f : X → Y) → ((a b : X) → R a b ≡ Less → S (f a) (f b) ≡ Less) → (xs : List X) → IsRising R xs → IsRising S (map f xs)
 rises_map R S f up [] r = tt

@@ -20,10 +20,10 @@ use Rattle.sg_state.proofs.Keyed.{At}
 use Rattle.sg_state.proofs.RisingLists.{rises_flat, rises_map}
 
 -- what comes first decides
-less_first : (a b : Ordering) → a ≡ Less → ordering_then a b ≡ Less
+pub less_first : (a b : Ordering) → a ≡ Less → ordering_then a b ≡ Less
 less_first a b e = ap (λ (o : Ordering). ordering_then o b) e
 
-less_then : (a b : Ordering) → a ≡ Equal → b ≡ Less → ordering_then a b ≡ Less
+pub less_then : (a b : Ordering) → a ≡ Equal → b ≡ Less → ordering_then a b ≡ Less
 less_then a b e f = ap (λ (o : Ordering). ordering_then o b) e ∙ f
 
 -- ---- things of rows, by scope and label
@@ -106,6 +106,9 @@ module _ {D : Type 0} (es : List (Scope × PlaceOf D)) where
   given_in s (Given d) q c = let e = single (s, d) q c in (ap (λ (z : Scope × D). z.0) (sym e), ap (λ (z : Scope × D). Given z.1) (sym e))
   given_in s (Waits u) q c = absurd (nothing_in q c)
   given_in s Empty q c = absurd (nothing_in q c)
+
+  pub given_key : (s : Scope) (x : Slot D) (q : Scope × D) → Contains (given_of s x) q → q.0 ≡ s
+  given_key s x q c = sym (given_in s x q c).0
 
   pub given_from : (s : Scope) (d : D) → Contains (flat_map (λ p. given_of p.0 (p.1).slot) es) (s, d) → SlotAt es s (Given d)
   given_from s d c =

@@ -1,7 +1,11 @@
 pub mod DatumState
 pub mod Held
+pub mod Need
 pub mod Opening
 pub mod Place
 pub mod Slot
 pub mod View
 pub mod Write
+pub mod Freed
+pub mod Listed
+pub mod Gains

@@ -1,11 +1,12 @@
 -- Openings: the graph with which a run begins, and who holds what there.
-use Rattle.std.specs.Prelude.{◌≡◌, ℕ, ◌+◌, ◌-◌, ◌<◌, ◌^◌, List, [], ◌∷◌, ◌++◌, map, length, replicate, fold, All}
+use Rattle.std.specs.Prelude.{◌≡◌, ℕ, ◌-◌, ◌<◌, ◌^◌, List, [], ◌++◌, map, length, replicate, fold, All}
 use Rattle.std.specs.Ordering.{on}
 use Rattle.std.specs.List.{Contains}
 use Rattle.sg_base.specs.declared.scope.Scope.{Scope}
-use Rattle.sg_base.specs.Graph.{Edge, GraphOf, HasScope, edge_cmp}
+use Rattle.sg_base.specs.Graph.{Edge, HasScope, edge_cmp}
 use Rattle.sg_base.specs.List.{IsDistinct}
 use Rattle.sg_base.specs.Scope.{scope_cmp}
+use Rattle.sg_state.specs.declared.opening.Opening.{Opening}
 use Rattle.sg_state.specs.Held.{HeldOf, RowHold, DatumHold, IsHeld, put, row_hold_cmp, datum_hold_cmp}
 
 -- the unit of the scopes of an opening, which is the number of no unit
@@ -20,6 +21,27 @@ pub record OpeningOf (D : Type 0) : Type 0 where
   pub row_holds : List RowHold
   pub datum_holds : List DatumHold
   pub units : ℕ
+
+-- the edge, the row hold and the datum hold that a tuple lists
+abbrev pub edge_of : Scope × ℕ × Scope → Edge
+edge_of e = record { from = e.0; label = e.1; to = e.2 }
+
+abbrev pub row_hold_of : ℕ × Scope × ℕ → RowHold
+row_hold_of k = record { scope = k.1; label = k.2; unit = k.0 }
+
+abbrev pub held_datum_of : ℕ × Scope → DatumHold
+held_datum_of k = record { scope = k.1; unit = k.0 }
+
+-- what the opening of the code lists
+abbrev pub opening_of : {D : Type 0} → Opening D → OpeningOf D
+opening_of o = record {
+  scopes = o.scopes.items;
+  edges = map edge_of o.edges.items;
+  given = o.given.items;
+  row_holds = map row_hold_of o.row_holds.items;
+  datum_holds = map held_datum_of o.datum_holds.items;
+  units = o.units;
+}
 
 -- the scopes that get a datum, at the opening or later
 abbrev pub data_of : {D : Type 0} → OpeningOf D → List Scope

@@ -1,5 +1,5 @@
 -- A held graph as the scopes with what they have.
-use Rattle.std.specs.Prelude.{◌≡◌, ℕ, List, [], ◌∷◌, map, Some, ◌<◌, ◌↔◌, length, slice_index}
+use Rattle.std.specs.Prelude.{◌≡◌, ℕ, List, [], ◌∷◌, map, Some, ◌<◌, ◌⊎◌, ◌↔◌, length, slice_index}
 use Rattle.std.specs.BTreeMap.{is_at}
 use Rattle.std.specs.List.{Contains, AllByRecursion, flat_map}
 use Rattle.std.specs.Map.{lookup, set_value}
@@ -106,3 +106,21 @@ pub record IsKept {D : Type 0} (es : List (Scope × PlaceOf D)) (made : List ℕ
   pub row_listed : (s : Scope) (l u : ℕ) → HoldAt es s l u → (u < length made) × IsListed lists u s
   pub datum_listed : (s : Scope) (u : ℕ) → SlotAt es s (Waits u) → (u < length made) × IsListed lists u s
   pub serials : (s : Scope) → HasKey es s → s.unit < length made → s.serial < slice_index made s.unit
+
+-- the places of these scopes have nothing yet
+pub record AreBare {D : Type 0} (es : List (Scope × PlaceOf D)) (scopes : List Scope) : Type 0 where
+  pub places : ArePlaces es
+  pub keys : (s : Scope) → (HasKey es s) ↔ (Contains scopes s)
+  pub edges : (s : Scope) (l : ℕ) (t : Scope) → EdgeAt es s l t → ⊥
+  pub holds : (s : Scope) (l u : ℕ) → HoldAt es s l u → ⊥
+  pub empty : (s : Scope) (p : PlaceOf D) → Contains es (s, p) → p.slot ≡ Empty
+
+-- the scopes have got these edges, row holds, data and datum holds, each datum where none was given or held
+pub record Gives {D : Type 0} (old new : List (Scope × PlaceOf D)) (more_edges : List Edge) (more_rows : List RowHold) (more_given : List (Scope × D)) (more_held : List DatumHold) : Type 0 where
+  pub places : ArePlaces new
+  pub keys : map (λ p. p.0) new ≡ map (λ p. p.0) old
+  pub edges : (s : Scope) (l : ℕ) (t : Scope) → (EdgeAt new s l t) ↔ (EdgeAt old s l t ⊎ Contains more_edges (record { from = s; label = l; to = t }))
+  pub holds : (s : Scope) (l u : ℕ) → (HoldAt new s l u) ↔ (HoldAt old s l u ⊎ Contains more_rows (record { scope = s; label = l; unit = u }))
+  pub given : (s : Scope) (d : D) → (SlotAt new s (Given d)) ↔ (SlotAt old s (Given d) ⊎ Contains more_given (s, d))
+  pub waits : (s : Scope) (u : ℕ) → (SlotAt new s (Waits u)) ↔ (SlotAt old s (Waits u) ⊎ Contains more_held (record { scope = s; unit = u }))
+  pub empty : (s : Scope) → SlotAt old s Empty → (Contains (map (λ p. p.0) more_given) s → ⊥) → (Contains (map (λ k. k.scope) more_held) s → ⊥) → SlotAt new s Empty

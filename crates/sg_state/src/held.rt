@@ -6,14 +6,19 @@ ghost use Rattle.sg_base.specs.Graph.{HasScope, HasEdge, row_of};
 ghost use Rattle.sg_base.specs.List.{IsRising};
 ghost use Rattle.sg_base.specs.Scope.{scope_cmp};
 ghost use Rattle.sg_base.specs.State.{IsOpen, IsUnset};
+ghost use Rattle.sg_state.specs.declared.need.Need.{Need as NeedOf};
 ghost use Rattle.sg_state.specs.DatumState.{IsDatumState};
 ghost use Rattle.sg_state.specs.Held.{IsHeld, HoldsRow, HoldsDatum, state_of, next_scope, with_no_scope, with_fresh, with_edge, with_datum, without_row, without_unit};
+ghost use Rattle.sg_state.specs.Need.{need_cmp, HoldsAlone};
+ghost use Rattle.sg_state.specs.Opening.{IsSoundOpening, IsOpening, opening_of, opened_of};
 
 use crate::datum_state::DatumState;
+use crate::need::Need;
+use crate::opening::Opening;
 use crate::place::Place;
 use crate::slot::Slot;
-use crate::{lists, places};
-use sg_base::{Instance, Label, LabelSet, Scope, ScopeSet};
+use crate::{copied, freed, lists, opened, places};
+use sg_base::{Graph, Instance, Label, LabelSet, Scope, ScopeSet};
 use std::alloc::{AllocError, Global};
 use std::collections::BTreeMap;
 use std::marker::Model;
@@ -52,6 +57,28 @@ impl<I: Instance> Held<I> {
             places: BTreeMap::new(alloc),
             made,
             lists: BTreeMap::new(alloc),
+        })
+    }
+
+    /// The held graph of a sound opening. Costs look-ups for each thing that the opening lists, and moving the scopes
+    /// above it in the list of a unit for each hold.
+    pub fn open(alloc: Global, o: Opening<I::Datum>) -> Result<Held<I>, AllocError>
+        requires sound { IsSoundOpening (opening_of o) }
+        ensures opened { IfOk result (λ h. h ≡ opened_of (opening_of o)) }
+        ensures begins { IfOk result IsOpening }
+    {
+        let made = vec![in alloc; 0u32; o.units as usize]?;
+        let mut lists = BTreeMap::new(alloc);
+        let mut places = opened::bare(alloc, &o.scopes)?;
+        opened::add_edges(alloc, &mut places, &o.edges)?;
+        opened::add_row_holds(alloc, &mut places, &mut lists, &o.row_holds)?;
+        opened::add_datum_holds(alloc, &mut places, &mut lists, &o.datum_holds)?;
+        opened::add_given(&mut places, o.given);
+        Ok(Held {
+            alloc,
+            places,
+            made,
+            lists,
         })
     }
 
@@ -95,7 +122,7 @@ impl<I: Instance> Held<I> {
     }
 
     /// Gives up all that the unit holds. Its unset data are absent from then on. Costs a look-up for each scope at
-    /// which the unit was given a hold.
+    /// which the unit was ever given a hold, though it may have given that up: each hold that was given is looked at once.
     pub fn end_unit(&mut self, unit: u32)
         ensures ended { self.new ≡ without_unit self.old unit }
         ensures sound { IsHeld self.new }
@@ -171,6 +198,17 @@ impl<I: Instance> Held<I> {
         places::find_slot(&self.places, s).is_some()
     }
 
+    /// A copy of the graph, with a copy of each datum. Costs a look-up for each scope, edge and datum.
+    pub fn graph(&self, alloc: Global) -> Result<Graph<I::Datum>, AllocError>
+        ensures { IfOk result (λ g. g ≡ self.now.graph) }
+    {
+        let mut graph = Graph::new(alloc);
+        copied::add_scopes(&self.places, &mut graph)?;
+        copied::add_edges(&self.places, &mut graph)?;
+        copied::add_data::<I>(alloc, &self.places, &mut graph)?;
+        Ok(graph)
+    }
+
     /// Makes the unit's next scope. The unit holds its rows with these labels, and its datum where that is wanted. Costs
     /// a look-up, at most sixteen small insertions, and moving the scopes above it in the unit's list.
     pub fn fresh(&mut self, unit: u32, labels: LabelSet, datum: bool) -> Result<Scope, AllocError>
@@ -188,5 +226,18 @@ impl<I: Instance> Held<I> {
         self.places.insert(s, place)?;
         self.made[unit as usize] = serial + 1;
         Ok(s)
+    }
+
+    /// The rising list of the rows and unset data that the unit alone holds: rows by scope and label, then data by
+    /// scope. Costs sixteen look-ups for each scope at which the unit was ever given a hold, though it may have given that
+    /// up: where it is asked once, as the unit ends, each hold that was given is looked at once.
+    pub fn frees(&self, unit: u32) -> Result<Vec<Need>, AllocError>
+        ensures rising { IfOk result (λ ns. IsRising need_cmp ns.items) }
+        ensures exact { IfOk result (λ ns. (n : NeedOf) → (Contains ns.items n) ↔ (HoldsAlone self.now unit n)) }
+    {
+        let list = lists::listed(&self.lists, unit);
+        let mut needs = freed::rows(self.alloc, self, list, unit)?;
+        freed::add_data(self, list, unit, &mut needs)?;
+        Ok(needs)
     }
 }

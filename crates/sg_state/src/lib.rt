@@ -5,20 +5,26 @@
 //! States", ECOOP 2021). No query and no order of units is known here.
 #![tactic(auto)]
 
+mod copied;
 mod datum_state;
+mod freed;
 mod held;
 pub mod laws;
 mod lists;
 mod need;
+mod opened;
+mod opening;
 mod place;
 mod places;
 mod row;
 mod slot;
+mod sound;
 mod unit_set;
 
 pub use datum_state::DatumState;
 pub use held::Held;
 pub use need::Need;
+pub use opening::Opening;
 
 #[cfg(test)]
 mod tests;

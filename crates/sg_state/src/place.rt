@@ -47,6 +47,13 @@ impl<D> Place<D> {
         self.rows.get(&label)
     }
 
+    /// The rows of the scope by the numbers of their labels.
+    pub fn rows(&self) -> &BTreeMap<u8, Row>
+        ensures { result.now.entries ≡ self.now.rows }
+    {
+        &self.rows
+    }
+
     /// The datum of the scope.
     pub fn slot(&self) -> &Slot<D>
         ensures { result.now ≡ self.now.slot }
@@ -148,6 +155,18 @@ impl<D> Place<D> {
     {
         self.make_row(alloc, label)?;
         self.add_holder(label, unit)?;
+        Ok(())
+    }
+
+    /// Adds a target to the row of a label, which is made if need be.
+    pub fn give_target(&mut self, alloc: Global, label: u8, to: Scope) -> Result<(), AllocError>
+        requires labelled { label < 16 }
+        requires place { IsPlace self.old }
+        ensures ok { OnOk result (AddsTarget self.old self.new label to) }
+        ensures place { IsPlace self.new }
+    {
+        self.make_row(alloc, label)?;
+        self.add_target(label, to)?;
         Ok(())
     }
 

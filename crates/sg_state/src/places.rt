@@ -4,14 +4,14 @@ ghost use Rattle.std.specs.Prelude.{◌≡◌, ◌<◌, ◌⊎◌, None, IfSome,
 ghost use Rattle.std.specs.BTreeMap.{is_at};
 ghost use Rattle.std.specs.Map.{lookup};
 ghost use Rattle.sg_base.specs.Scope.{scope_cmp};
-ghost use Rattle.sg_state.specs.Place.{AddsTarget, LosesHolder, LosesUnit};
+ghost use Rattle.sg_state.specs.Place.{AddsTarget, AddsHolder, LosesHolder, LosesUnit};
 ghost use Rattle.sg_state.specs.View.{ArePlaces, ChangesPlace, HasKey, RowAt, RowIs, SlotAt, LeavesAll};
 
 use crate::place::Place;
 use crate::row::Row;
 use crate::slot::Slot;
 use sg_base::Scope;
-use std::alloc::AllocError;
+use std::alloc::{AllocError, Global};
 use std::collections::BTreeMap;
 
 /// Adds a target to a row.
@@ -28,6 +28,46 @@ pub fn add_target<D>(
 {
     match places.get_mut(&s) {
         Some(place) => place.add_target(label, to)?,
+        None => {}
+    }
+    Ok(())
+}
+
+/// Adds a target to a row, which is made if need be.
+pub fn put_target<D>(
+    alloc: Global,
+    places: &mut BTreeMap<Scope, Place<D>>,
+    s: Scope,
+    label: u8,
+    to: Scope,
+) -> Result<(), AllocError>
+    requires there { HasKey places.old.entries s }
+    requires labelled { label < 16 }
+    requires places { ArePlaces places.old.entries }
+    ensures ok { OnOk result (ChangesPlace (λ p q. AddsTarget p q label to) places.old.entries places.new.entries s) }
+{
+    match places.get_mut(&s) {
+        Some(place) => place.give_target(alloc, label, to)?,
+        None => {}
+    }
+    Ok(())
+}
+
+/// Makes a unit a holder of a row, which is made if need be.
+pub fn put_holder<D>(
+    alloc: Global,
+    places: &mut BTreeMap<Scope, Place<D>>,
+    s: Scope,
+    label: u8,
+    unit: u32,
+) -> Result<(), AllocError>
+    requires there { HasKey places.old.entries s }
+    requires labelled { label < 16 }
+    requires places { ArePlaces places.old.entries }
+    ensures ok { OnOk result (ChangesPlace (λ p q. AddsHolder p q label unit) places.old.entries places.new.entries s) }
+{
+    match places.get_mut(&s) {
+        Some(place) => place.give_row(alloc, label, unit)?,
         None => {}
     }
     Ok(())

@@ -1,0 +1,6 @@
+use Rattle.sg_state.proofs.FreeNeeds.{frees_all}
+use Rattle.sg_state.proofs.held.Held.frees.Goals as goal
+
+pub returns-clause-exact : goal.returns-clause-exact
+returns-clause-exact g c =
+    rw (← c.self.view_is) (frees_all c.self.inside.places.entries c.self.inside.made.items c.self.inside.lists.entries c.self.invariant c.args.unit c.listed-list.result.now c.listed-list.ensures.exact c.in_ok-needs.needs.items c.add_data.new.needs.items (rw c.self.view_is c.in_ok-needs.ensures) (rw c.self.view_is c.in_ok-add_data.ensures.ok))

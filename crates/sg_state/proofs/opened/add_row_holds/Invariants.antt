@@ -1,0 +1,15 @@
+use Rattle.std.proofs.Common.{[], map, take}
+use Rattle.std.specs.List.{Contains}
+use Rattle.std.specs.Ordering.{nat_cmp}
+use Rattle.sg_base.specs.List.{IsRising}
+use Rattle.sg_state.specs.Held.{RowHold}
+use Rattle.sg_state.specs.Opening.{row_hold_of}
+use Rattle.sg_state.specs.View.{Gives, IsListed, KeepsLists}
+use Rattle.sg_state.proofs.opened.add_row_holds.Given as goal
+
+abbrev pub invariant-loop-unit : goal.invariant-loop-unit
+invariant-loop-unit g l =
+    Gives l.initial.places.entries l.places.entries [] (map row_hold_of (take l.unit-index l.list)) [] []
+    × ((k : RowHold) → Contains (map row_hold_of (take l.unit-index l.list)) k → IsListed l.units.entries k.unit k.scope)
+    × KeepsLists l.initial.units.entries l.units.entries
+    × IsRising nat_cmp (map (λ p. p.0) l.units.entries)

@@ -1,0 +1,13 @@
+pub mod Asks
+pub mod Driving
+pub mod Ended
+pub mod Examples
+pub mod Falling
+pub mod Growing
+pub mod Honesty
+pub mod Lonely
+pub mod Steps
+pub mod Telling
+pub mod Tracing
+pub mod Waiters
+pub mod Writes

@@ -1,0 +1,11 @@
+pub mod Bound
+pub mod Example
+pub mod Honest
+pub mod Law
+pub mod Operation
+pub mod Own
+pub mod Run
+pub mod Step
+pub mod Trace
+pub mod Unit
+pub mod Waiting
