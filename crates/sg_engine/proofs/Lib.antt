@@ -1,0 +1,17 @@
+pub mod Closed
+pub mod Counting
+pub mod Finding
+pub mod Advancing
+pub mod Ending
+pub mod Exploring
+pub mod Growing
+pub mod Keeping
+pub mod Listing
+pub mod Looking
+pub mod Needing
+pub mod Offering
+pub mod Replying
+pub mod Rooting
+pub mod Running
+pub mod Standing
+pub mod Stepping

@@ -1,0 +1,9 @@
+pub mod Back
+pub mod Front
+pub mod Growth
+pub mod Law
+pub mod Need
+pub mod Outcome
+pub mod Run
+pub mod Search
+pub mod Tree

@@ -1,0 +1,52 @@
+-- What a run over the items that are left does.
+use Rattle.std.specs.Prelude.{◌≡◌, ◌≢◌, ℕ, ◌+◌, ◌<◌, ◌≤◌, List, [], ◌∷◌, Bool, ◌⊎◌, length, drop}
+use Rattle.std.specs.List.{Contains}
+use Rattle.sg_base.specs.declared.scope.Scope.{Scope}
+use Rattle.sg_base.specs.State.{State}
+use Rattle.sg_query.specs.Answer.{most_paths}
+use Rattle.sg_query.specs.Query.{Asked}
+use Rattle.sg_query.specs.State.{Item}
+use Rattle.sg_engine.specs.declared.found_at.FoundAt.{FoundAt}
+use Rattle.sg_engine.specs.declared.look.Look.{Look}
+use Rattle.sg_engine.specs.declared.look.Look.TheVariants.{Many, Over, Free}
+use Rattle.sg_engine.specs.declared.node.Node.{Node}
+use Rattle.sg_engine.specs.declared.progress.Progress.{Progress}
+use Rattle.sg_engine.specs.declared.progress.Progress.TheVariants.{Moved, Blocked, Ready}
+use Rattle.sg_engine.specs.declared.run.Run.{Run}
+use Rattle.sg_engine.specs.declared.run.Run.TheVariants as r
+use Rattle.sg_engine.specs.declared.tree.Tree.{Tree}
+use Rattle.sg_engine.specs.declared.work.Work.{Work}
+use Rattle.sg_engine.specs.Front.{Stands, IsBlocked, AllBlocked}
+use Rattle.sg_engine.specs.Tree.{left_of, front_of, front_on, IsTreeOn, AllBlock, BlocksWork}
+
+-- too many paths go on; or blocked work was put aside, up to the queue's end, or up to the first that is free
+abbrev pub HasLooked : {D : Type 0} → State D → Tree D → Tree D → Look → Type 0
+HasLooked h old new Many = (most_paths < old.going) × (left_of new ≡ left_of old) × (new.next ≡ old.next)
+HasLooked h old new Over =
+    (old.going ≤ most_paths) × (left_of new ≡ left_of old) × (new.next ≡ length old.queue.items) × (AllBlock h old.start old.nodes.items old.blocked.items → AllBlock h old.start old.nodes.items new.blocked.items)
+HasLooked h old new (Free w) =
+    (old.going ≤ most_paths) × (left_of new ≡ left_of old) × (drop new.next old.queue.items ≡ w ∷ drop (new.next + 1) old.queue.items) × (new.next < length old.queue.items) × (AllBlock h old.start old.nodes.items old.blocked.items → AllBlock h old.start old.nodes.items new.blocked.items) × (BlocksWork h old.start old.nodes.items w → ⊥)
+
+-- these are the parts of a search for what the query asks, which stands in the state
+abbrev pub IsSearchOn : {D : Type 0} → State D → (D → Bool) → Asked D → Scope → List Node → List Work → List (FoundAt D) → ℕ → ℕ → Type 0
+IsSearchOn h wants q start nodes left found explored going =
+    (q.start ≡ start) × (q.wants ≡ wants) × IsTreeOn q.expr start nodes left found explored going × Stands h q (front_on start nodes left found explored going)
+
+-- the tree is that of a search for what the query asks, which stands in the state
+abbrev pub IsSearchIn : {D : Type 0} → State D → (D → Bool) → Asked D → Tree D → Type 0
+IsSearchIn h wants q t = IsSearchOn h wants q t.start t.nodes.items (left_of t) t.found.items t.explored t.going × (t.next ≤ length t.queue.items)
+
+-- what a run that may explore this many items comes to
+abbrev pub HasRun : {D : Type 0} → State D → ℕ → Tree D → Tree D → Run → Type 0
+HasRun h most old new r.Many = (most_paths < new.going) × (new.explored ≤ old.explored + most)
+HasRun h most old new (r.Over k) =
+    (new.going ≤ most_paths) × (new.explored + k ≡ old.explored + most) × (new.next ≡ length new.queue.items) × (AllBlock h old.start old.nodes.items old.blocked.items → AllBlock h new.start new.nodes.items new.blocked.items)
+HasRun h most old new r.Free =
+    (new.going ≤ most_paths) × (new.explored ≡ old.explored + most) × (w : Work) × (drop new.next new.queue.items ≡ w ∷ drop (new.next + 1) new.queue.items) × (BlocksWork h new.start new.nodes.items w → ⊥)
+
+-- what an advance answers, by what it leaves and the number of items that it may come to
+abbrev pub IsReply : {D : Type 0} → State D → Asked D → ℕ → Tree D → Progress → Type 0
+IsReply h q limit t Ready = (t.explored ≤ limit) × (((front_of t).left ≡ []) ⊎ (most_paths < t.going))
+IsReply h q limit t Blocked =
+    (t.explored ≤ limit) × ((front_of t).left ≢ []) × AllBlocked h q (front_of t) × (t.going ≤ most_paths) × (left_of t ≡ t.blocked.items)
+IsReply h q limit t Moved = (t.explored ≡ limit) × ((x : Item) × Contains (front_of t).left x × (IsBlocked h q.start x → ⊥)) × (t.going ≤ most_paths)

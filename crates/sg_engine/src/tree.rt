@@ -1,0 +1,151 @@
+ghost use Rattle.std.specs.Prelude.{◌≡◌, ◌+◌, ◌≤◌, ◌<◌, [], ◌∷◌, ◌++◌, List, ◌↔◌, IfOk, OnOk, length};
+ghost use Rattle.std.specs.List.{Contains};
+ghost use Rattle.sg_base.specs.Label.{Word};
+ghost use Rattle.sg_base.specs.List.{IsDistinct};
+ghost use Rattle.sg_expr.specs.declared.expr.Expr.{Expr as ExprOf};
+ghost use Rattle.sg_expr.specs.Word.{In};
+ghost use Rattle.sg_query.specs.Steps.{is_fresh};
+ghost use Rattle.sg_engine.specs.declared.work.Work.{Work as WorkOf};
+ghost use Rattle.sg_engine.specs.Front.{step_to};
+ghost use Rattle.sg_engine.specs.Growth.{Gains, into_targets, no_front};
+ghost use Rattle.sg_engine.specs.Tree.{path_at, paths_of, expr_of, IsWorkOf, front_of, IsTree, IsFrontOf, ListsOn};
+
+use crate::found_at::FoundAt;
+use crate::node::Node;
+use crate::work::Work;
+use sg_base::{Label, Scope, Step};
+use sg_expr::Expr;
+use std::alloc::{AllocError, Global};
+
+/// The paths that a search found, and what it has left: the work that was put aside, and the queue from `next` on.
+#[derive(Drop)]
+pub struct Tree<D> {
+    pub start: Scope,
+    pub nodes: Vec<Node>,
+    pub blocked: Vec<Work>,
+    pub queue: Vec<Work>,
+    pub next: usize,
+    pub found: Vec<FoundAt<D>>,
+    pub explored: u128,
+    pub going: usize,
+}
+
+/// Adds what the path of a node offers.
+fn push_offers(rest: &Expr, place: usize, queue: &mut Vec<Work>) -> Result<(), AllocError>
+    ensures offers { OnOk result ((ws : List WorkOf) × (queue.new.items ≡ queue.old.items ++ ws) × IsDistinct ws × (length ws ≤ 17) × ((x : WorkOf) → (Contains ws x) ↔ (IsWorkOf rest.now place x))) }
+    ensures lists { IsFrontOf queue.old.items queue.new.items }
+{
+    let heads = rest.heads();
+    for n in 0..16 {
+        let l = Label::new(n);
+        if heads.has(l) {
+            queue.push(Work::Next(place, l))?;
+        }
+    }
+    if rest.nullable() {
+        queue.push(Work::Whole(place))?;
+    }
+    Ok(())
+}
+
+impl<D> Tree<D> {
+    /// The tree of the path with no step, which these words follow.
+    pub fn root(alloc: Global, start: Scope, rest: Expr) -> Result<Tree<D>, AllocError>
+        ensures start { IfOk result (λ t. t.start ≡ start) }
+        ensures expr { IfOk result (λ t. expr_of t.nodes.items ≡ rest) }
+        ensures tree { (e : ExprOf) → ((w : Word) → (In rest w) ↔ (In e w)) → IfOk result (λ t. IsTree e t × Gains e no_front (front_of t) ([] ∷ [])) }
+    {
+        let mut queue = Vec::new(alloc);
+        push_offers(&rest, 0, &mut queue)?;
+        let going = if rest.goes_on() { 1 } else { 0 };
+        let step = Step {
+            label: Label::new(0),
+            to: start,
+        };
+        let mut nodes = Vec::new(alloc);
+        nodes.push(Node {
+            parent: 0,
+            step,
+            rest,
+        })?;
+        Ok(Tree {
+            start,
+            nodes,
+            blocked: Vec::new(alloc),
+            queue,
+            next: 0,
+            found: Vec::new(alloc),
+            explored: 0,
+            going,
+        })
+    }
+
+    /// Adds a path with one more step, and what it offers, in the time of the expression of the words that follow.
+    pub fn push_node(
+        &mut self,
+        alloc: Global,
+        parent: usize,
+        l: Label,
+        to: Scope,
+    ) -> Result<(), AllocError>
+        requires there { parent < length self.old.nodes.items }
+        requires few { self.old.going ≤ length self.old.nodes.items }
+        ensures tree { (e : ExprOf) → IsTree e self.old → OnOk result (IsTree e self.new × Gains e (front_of self.old) (front_of self.new) ((path_at (paths_of self.old.nodes.items) parent ++ step_to l to ∷ []) ∷ [])) }
+        ensures next { self.new.next ≡ self.old.next }
+        ensures explored { self.new.explored ≡ self.old.explored }
+        ensures blocked { self.new.blocked ≡ self.old.blocked }
+        ensures lists { ListsOn self.old self.new }
+        ensures more { OnOk result ((length self.old.nodes.items < length self.new.nodes.items) × (self.new.going ≤ length self.new.nodes.items)) }
+    {
+        let rest = self.nodes[parent].rest.after(alloc, l)?;
+        push_offers(&rest, self.nodes.len(), &mut self.queue)?;
+        if rest.goes_on() {
+            self.going += 1;
+        }
+        let step = Step { label: l, to };
+        self.nodes.push(Node { parent, step, rest })?;
+        Ok(())
+    }
+
+    /// Whether the path of a node passes by the scope nowhere. Walks up the node's parents, which takes the time of the
+    /// path's length.
+    pub fn is_fresh_at(&self, place: usize, t: Scope) -> bool
+        requires tree { (e : ExprOf) × IsTree e self.now }
+        requires there { place < length self.now.nodes.items }
+        ensures { result ≡ is_fresh self.now.start (path_at (paths_of self.now.nodes.items) place) t }
+    {
+        let mut k = place;
+        while k != 0 {
+            let node = &self.nodes[k];
+            if node.step.to == t {
+                return false;
+            }
+            k = node.parent;
+        }
+        t != self.start
+    }
+
+    /// Adds the paths of a node with one more step into a row.
+    pub fn push_row(
+        &mut self,
+        alloc: Global,
+        row: &[Scope],
+        place: usize,
+        l: Label,
+    ) -> Result<(), AllocError>
+        requires tree { (e : ExprOf) × IsTree e self.old }
+        requires there { place < length self.old.nodes.items }
+        ensures tree { (e : ExprOf) → IsTree e self.old → OnOk result (IsTree e self.new × Gains e (front_of self.old) (front_of self.new) (into_targets self.old.start (path_at (paths_of self.old.nodes.items) place) l row.now)) }
+        ensures next { self.new.next ≡ self.old.next }
+        ensures explored { self.new.explored ≡ self.old.explored }
+        ensures blocked { self.new.blocked ≡ self.old.blocked }
+        ensures lists { ListsOn self.old self.new }
+    {
+        for t in row {
+            if self.is_fresh_at(place, *t) {
+                self.push_node(alloc, place, l, *t)?;
+            }
+        }
+        Ok(())
+    }
+}
