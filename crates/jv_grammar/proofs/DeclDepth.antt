@@ -1,66 +1,14 @@
--- How deep a derivation of declarations nests, and that it takes terminals.
-use Rattle.std.proofs.Common.{ℕ, suc, ◌<◌, ◌≤◌, ◌+◌, max, List, length, Option, arith}
+-- That a derivation of declarations takes terminals, and nests less deep than it takes them.
+use Rattle.std.proofs.Common.{ℕ, ◌<◌, ◌≤◌, ◌+◌, List, length, Option, arith}
 use Rattle.jv_tree.specs.declared.name.Ident.{Ident as Identifier}
 use Rattle.jv_tree.specs.ExprTree.{ExprTrees}
 use Rattle.jv_tree.specs.StmtTree.{VarTree, StmtTrees}
 use Rattle.jv_tree.specs.DeclTree.{ParamTree, TypeDeclTree, MemberTree, MemberTrees, ImportTree, UnitTree}
 use Rattle.jv_grammar.specs.declared.terminal.Terminal.{Terminal}
 use Rattle.jv_grammar.specs.DeclGrammar.{DerivesMods, mods_none, mods_more, DerivesParam, param_plain, param_final, DerivesSomeParams, some_params_one, some_params_more, DerivesParams, params_none, params_some, DerivesBody, body_block, body_none, DerivesCtor, ctor_plain, ctor_super, DerivesConstants, constants_one, constants_more, DerivesParent, parent_none, parent_some, DerivesParents, parents_none, parents_some, DerivesInterfaces, interfaces_none, interfaces_some, DerivesType, type_class, type_interface, DerivesClass, class, DerivesInterface, interface, DerivesMembers, members_none, members_more, members_empty, DerivesMember, member_type, member_field, member_method, member_ctor, DerivesImembers, imembers_none, imembers_more, imembers_empty, DerivesImember, imember_type, imember_field, imember_method, DerivesPackage, package_none, package_some, DerivesImport, import_one, import_all, DerivesImports, imports_none, imports_more, DerivesTypes, types_none, types_more, types_empty, Derives, file}
-use Rattle.jv_grammar.proofs.Depth.{deep_args, deep_init, less_name, less_names, less_ty, less_result, less_args, less_init, fits_args, fits_init}
-use Rattle.jv_grammar.proofs.StmtDepth.{deep_vars, deep_block, deep_bstmts, less_vars, less_block, less_bstmts, fits_vars, fits_block, fits_bstmts}
-
--- how deep a derivation nests: what the readers count down
-abbrev pub deep_body : {b : Option StmtTrees} {xs ys : List Terminal} → DerivesBody b xs ys → ℕ
-deep_body (body_block d) = deep_block d
-deep_body body_none = 0
-
-abbrev pub deep_ctor : {c : Option (ℕ × ExprTrees)} {ss : StmtTrees} {xs ys : List Terminal} → DerivesCtor c ss xs ys → ℕ
-deep_ctor (ctor_plain d) = deep_bstmts d
-deep_ctor (ctor_super a d) = max (deep_args a) (deep_bstmts d)
-
-abbrev pub deep_constants : {vs : List VarTree} {xs ys : List Terminal} → DerivesConstants vs xs ys → ℕ
-deep_constants (constants_one d) = deep_init d
-deep_constants (constants_more d r) = max (deep_init d) (deep_constants r)
-
-abbrev mutual
-  pub deep_type : {x : TypeDeclTree} {xs ys : List Terminal} → DerivesType x xs ys → ℕ
-  deep_type (type_class m d) = deep_class d
-  deep_type (type_interface m d) = deep_interface d
-
-  pub deep_class : {ks : List ℕ} {x : TypeDeclTree} {xs ys : List Terminal} → DerivesClass ks x xs ys → ℕ
-  deep_class (class a b d) = deep_members d
-
-  pub deep_interface : {ks : List ℕ} {x : TypeDeclTree} {xs ys : List Terminal} → DerivesInterface ks x xs ys → ℕ
-  deep_interface (interface a d) = deep_imembers d
-
-  pub deep_members : {ms : MemberTrees} {xs ys : List Terminal} → DerivesMembers ms xs ys → ℕ
-  deep_members members_none = 0
-  deep_members (members_more d r) = max (deep_member d) (deep_members r)
-  deep_members (members_empty r) = deep_members r
-
-  pub deep_member : {m : MemberTree} {xs ys : List Terminal} → DerivesMember m xs ys → ℕ
-  deep_member (member_type d) = suc (deep_type d)
-  deep_member (member_field m d v) = deep_vars v
-  deep_member (member_method m d q b) = deep_body b
-  deep_member (member_ctor m q c) = deep_ctor c
-
-  pub deep_imembers : {ms : MemberTrees} {xs ys : List Terminal} → DerivesImembers ms xs ys → ℕ
-  deep_imembers imembers_none = 0
-  deep_imembers (imembers_more d r) = max (deep_imember d) (deep_imembers r)
-  deep_imembers (imembers_empty r) = deep_imembers r
-
-  pub deep_imember : {m : MemberTree} {xs ys : List Terminal} → DerivesImember m xs ys → ℕ
-  deep_imember (imember_type d) = suc (deep_type d)
-  deep_imember (imember_field m d v) = deep_constants v
-  deep_imember (imember_method m d q) = 0
-
-abbrev pub deep_types : {ts : List TypeDeclTree} {xs ys : List Terminal} → DerivesTypes ts xs ys → ℕ
-deep_types types_none = 0
-deep_types (types_more d r) = max (deep_type d) (deep_types r)
-deep_types (types_empty r) = deep_types r
-
-abbrev pub deep_file : {xs : List Terminal} {u : UnitTree} → Derives xs u → ℕ
-deep_file (file a b d) = deep_types d
+use Rattle.jv_grammar.proofs.Depth.{less_name, less_names, less_ty, less_result, less_args, less_init, fits_args, fits_init}
+use Rattle.jv_grammar.proofs.StmtDepth.{less_vars, less_block, less_bstmts, fits_vars, fits_block, fits_bstmts}
+pub use Rattle.jv_grammar.specs.Depth.{deep_body, deep_ctor, deep_constants, deep_type, deep_class, deep_interface, deep_members, deep_member, deep_imembers, deep_imember, deep_types, deep_file}
 
 -- a derivation takes at least one terminal; what may be left out takes any number
 pub less_mods : {ks : List ℕ} {xs ys : List Terminal} → DerivesMods ks xs ys → length ys ≤ length xs

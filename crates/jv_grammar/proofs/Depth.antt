@@ -1,5 +1,5 @@
--- How deep a derivation nests, and that it takes terminals.
-use Rattle.std.proofs.Common.{ℕ, suc, ◌<◌, ◌≤◌, ◌+◌, max, List, length, arith}
+-- That a derivation takes terminals, and nests less deep than it takes them.
+use Rattle.std.proofs.Common.{ℕ, ◌<◌, ◌≤◌, ◌+◌, List, length, arith}
 use Rattle.jv_tree.specs.declared.name.Ident.{Ident as Identifier}
 use Rattle.jv_tree.specs.TypeTree.{BaseTree, TypeTree}
 use Rattle.jv_tree.specs.ExprTree.{ExprTree, OperandTree, InitTree, ExprTrees, InitTrees, LinkTrees}
@@ -7,92 +7,7 @@ use Rattle.jv_grammar.specs.declared.terminal.Terminal.{Terminal}
 use Rattle.jv_grammar.specs.declared.form.Form.{Form}
 use Rattle.jv_grammar.specs.TypeGrammar.{DerivesName, name_one, name_more, DerivesNames, names_one, names_more, DerivesPrim, prim_boolean, prim_char, prim_int, prim_long, DerivesBase, base_prim, base_name, DerivesPairs, pairs_none, pairs_more, DerivesTy, ty, DerivesReference, reference_name, reference_prim, DerivesResult, result_ty, result_void}
 use Rattle.jv_grammar.specs.ExprGrammar.{DerivesExpr, expr_assign, expr_cond, DerivesCond, cond_bin, cond_choice, DerivesBin, bin_unary, bin_one, bin_chain, DerivesLinks, links_one, links_more, DerivesLink, link_operand, link_type, DerivesUnary, unary_sign, unary_step, unary_minimum, unary_minimum_long, unary_cast, unary_post, DerivesCast, cast_prim, cast_reference, DerivesPlain, plain_sign, plain_cast, plain_post, DerivesPost, post_primary, post_step, DerivesPrimary, primary_head, primary_field, primary_call, primary_index, DerivesHead, head_literal, head_this, head_paren, head_name, head_call, head_super_field, head_super_call, head_new, head_new_array, head_new_list, DerivesDims, dims_one, dims_more, DerivesArgs, args_none, args_some, DerivesExprs, exprs_one, exprs_more, DerivesInit, init_expr, init_list, DerivesList, list_none, list_some, DerivesInits, inits_one, inits_more, DerivesListEnd, list_end, list_comma_end}
-
--- how deep a derivation nests: what the readers count down
-abbrev mutual
-  pub deep_expr : {f : Form} {e : ExprTree} {xs ys : List Terminal} → DerivesExpr f e xs ys → ℕ
-  deep_expr (expr_assign d h r) = max (deep_primary d) (suc (deep_expr r))
-  deep_expr (expr_cond d) = deep_cond d
-
-  pub deep_cond : {f : Form} {e : ExprTree} {xs ys : List Terminal} → DerivesCond f e xs ys → ℕ
-  deep_cond (cond_bin d) = deep_bin d
-  deep_cond (cond_choice d a b) = max (deep_bin d) (max (suc (deep_expr a)) (suc (deep_cond b)))
-
-  pub deep_bin : {levels : List (List ℕ)} {f : Form} {e : ExprTree} {xs ys : List Terminal} → DerivesBin levels f e xs ys → ℕ
-  deep_bin (bin_unary d) = deep_unary d
-  deep_bin (bin_one d) = deep_bin d
-  deep_bin (bin_chain d l) = max (deep_bin d) (deep_links l)
-
-  pub deep_links : {level : List ℕ} {tighter : List (List ℕ)} {ls : LinkTrees} {xs ys : List Terminal} → DerivesLinks level tighter ls xs ys → ℕ
-  deep_links (links_one d) = deep_link d
-  deep_links (links_more d l) = max (deep_link d) (deep_links l)
-
-  pub deep_link : {level : List ℕ} {tighter : List (List ℕ)} {p o : ℕ} {x : OperandTree} {xs ys : List Terminal} → DerivesLink level tighter p o x xs ys → ℕ
-  deep_link (link_operand h d) = deep_bin d
-  deep_link (link_type h d) = 0
-
-  pub deep_unary : {f : Form} {e : ExprTree} {xs ys : List Terminal} → DerivesUnary f e xs ys → ℕ
-  deep_unary (unary_sign h d) = suc (deep_unary d)
-  deep_unary (unary_step h d) = suc (deep_unary d)
-  deep_unary unary_minimum = 0
-  deep_unary unary_minimum_long = 0
-  deep_unary (unary_cast d) = deep_cast d
-  deep_unary (unary_post d) = deep_post d
-
-  pub deep_cast : {e : ExprTree} {xs ys : List Terminal} → DerivesCast e xs ys → ℕ
-  deep_cast (cast_prim m d) = suc (deep_unary d)
-  deep_cast (cast_reference m d) = suc (deep_plain d)
-
-  pub deep_plain : {f : Form} {e : ExprTree} {xs ys : List Terminal} → DerivesPlain f e xs ys → ℕ
-  deep_plain (plain_sign h d) = suc (deep_unary d)
-  deep_plain (plain_cast d) = deep_cast d
-  deep_plain (plain_post d) = deep_post d
-
-  pub deep_post : {f : Form} {e : ExprTree} {xs ys : List Terminal} → DerivesPost f e xs ys → ℕ
-  deep_post (post_primary d) = deep_primary d
-  deep_post (post_step d h) = deep_post d
-
-  pub deep_primary : {f : Form} {e : ExprTree} {xs ys : List Terminal} → DerivesPrimary f e xs ys → ℕ
-  deep_primary (primary_head d) = deep_head d
-  deep_primary (primary_field d h) = deep_primary d
-  deep_primary (primary_call d a) = max (deep_primary d) (deep_args a)
-  deep_primary (primary_index d x) = max (deep_primary d) (suc (deep_expr x))
-
-  pub deep_head : {f : Form} {e : ExprTree} {xs ys : List Terminal} → DerivesHead f e xs ys → ℕ
-  deep_head head_literal = 0
-  deep_head head_this = 0
-  deep_head (head_paren h d) = suc (deep_expr d)
-  deep_head (head_name m h) = 0
-  deep_head (head_call a) = deep_args a
-  deep_head (head_super_field h) = 0
-  deep_head (head_super_call a) = deep_args a
-  deep_head (head_new m a) = deep_args a
-  deep_head (head_new_array m d h) = suc (deep_dims d)
-  deep_head (head_new_list {n} m q l) = deep_list l
-
-  pub deep_dims : {es : ExprTrees} {n : ℕ} {xs ys : List Terminal} → DerivesDims es n xs ys → ℕ
-  deep_dims (dims_one d q) = deep_expr d
-  deep_dims (dims_more d r) = max (deep_expr d) (deep_dims r)
-
-  pub deep_args : {es : ExprTrees} {xs ys : List Terminal} → DerivesArgs es xs ys → ℕ
-  deep_args args_none = 0
-  deep_args (args_some d) = suc (deep_exprs d)
-
-  pub deep_exprs : {es : ExprTrees} {xs ys : List Terminal} → DerivesExprs es xs ys → ℕ
-  deep_exprs (exprs_one d) = deep_expr d
-  deep_exprs (exprs_more d r) = max (deep_expr d) (deep_exprs r)
-
-  pub deep_init : {i : InitTree} {xs ys : List Terminal} → DerivesInit i xs ys → ℕ
-  deep_init (init_expr d) = deep_expr d
-  deep_init (init_list d) = deep_list d
-
-  pub deep_list : {p : ℕ} {is : InitTrees} {xs ys : List Terminal} → DerivesList p is xs ys → ℕ
-  deep_list (list_none d) = 0
-  deep_list (list_some d q) = suc (deep_inits d)
-
-  pub deep_inits : {is : InitTrees} {xs ys : List Terminal} → DerivesInits is xs ys → ℕ
-  deep_inits (inits_one d) = deep_init d
-  deep_inits (inits_more d r) = max (deep_init d) (deep_inits r)
+pub use Rattle.jv_grammar.specs.Depth.{deep_expr, deep_cond, deep_bin, deep_links, deep_link, deep_unary, deep_cast, deep_plain, deep_post, deep_primary, deep_head, deep_dims, deep_args, deep_exprs, deep_init, deep_list, deep_inits}
 
 -- a derivation takes at least one terminal
 pub less_name : {ids : List Identifier} {xs ys : List Terminal} → DerivesName ids xs ys → length ys < length xs

@@ -30,3 +30,8 @@ pub mod Loads
 pub mod Shallow
 pub mod Stacks
 pub mod Turns
+pub mod Stretches
+pub mod Nested
+pub mod StmtNested
+pub mod DeclNested
+pub mod WholeNesting

@@ -1,65 +1,11 @@
--- How deep a derivation of statements nests, and that it takes terminals.
-use Rattle.std.proofs.Common.{ℕ, suc, ◌<◌, ◌≤◌, ◌+◌, max, List, length, Option, arith}
+-- That a derivation of statements takes terminals, and nests less deep than it takes them.
+use Rattle.std.proofs.Common.{ℕ, ◌<◌, ◌≤◌, ◌+◌, List, length, Option, arith}
 use Rattle.jv_tree.specs.ExprTree.{ExprTree, ExprTrees}
 use Rattle.jv_tree.specs.StmtTree.{VarTree, StmtTree, StmtTrees}
 use Rattle.jv_grammar.specs.declared.terminal.Terminal.{Terminal}
 use Rattle.jv_grammar.specs.StmtGrammar.{DerivesVar, var_alone, var_init, DerivesVars, vars_one, vars_more, DerivesLocal, local_vars, local_final, DerivesEffects, effects_one, effects_more, DerivesFirst, first_none, first_local, first_effects, DerivesOptional, optional_none, optional_some, DerivesUpdates, updates_none, updates_some, DerivesBlock, block, DerivesBstmts, bstmts_none, bstmts_more, DerivesBstmt, bstmt_local, bstmt_stmt, DerivesStmt, stmt_block, stmt_empty, stmt_effect, stmt_if, stmt_if_else, stmt_while, stmt_do, stmt_for, stmt_return, stmt_break, stmt_continue}
-use Rattle.jv_grammar.proofs.Depth.{deep_expr, deep_init, less_ty, less_expr, less_init, fits_expr, fits_init}
-
--- how deep a derivation nests: what the readers count down
-abbrev pub deep_var : {v : VarTree} {xs ys : List Terminal} → DerivesVar v xs ys → ℕ
-deep_var var_alone = 0
-deep_var (var_init d) = deep_init d
-
-abbrev pub deep_vars : {vs : List VarTree} {xs ys : List Terminal} → DerivesVars vs xs ys → ℕ
-deep_vars (vars_one d) = deep_var d
-deep_vars (vars_more d r) = max (deep_var d) (deep_vars r)
-
-abbrev pub deep_local : {x : StmtTree} {xs ys : List Terminal} → DerivesLocal x xs ys → ℕ
-deep_local (local_vars d r) = deep_vars r
-deep_local (local_final d r) = deep_vars r
-
-abbrev pub deep_effects : {es : ExprTrees} {xs ys : List Terminal} → DerivesEffects es xs ys → ℕ
-deep_effects (effects_one d) = deep_expr d
-deep_effects (effects_more d r) = max (deep_expr d) (deep_effects r)
-
-abbrev pub deep_first : {ss : StmtTrees} {xs ys : List Terminal} → DerivesFirst ss xs ys → ℕ
-deep_first first_none = 0
-deep_first (first_local d) = deep_local d
-deep_first (first_effects d) = deep_effects d
-
-abbrev pub deep_optional : {c : Option ExprTree} {xs ys : List Terminal} → DerivesOptional c xs ys → ℕ
-deep_optional optional_none = 0
-deep_optional (optional_some d) = deep_expr d
-
-abbrev pub deep_updates : {es : ExprTrees} {xs ys : List Terminal} → DerivesUpdates es xs ys → ℕ
-deep_updates updates_none = 0
-deep_updates (updates_some d) = deep_effects d
-
-abbrev mutual
-  pub deep_block : {p : ℕ} {ss : StmtTrees} {xs ys : List Terminal} → DerivesBlock p ss xs ys → ℕ
-  deep_block (block d) = suc (deep_bstmts d)
-
-  pub deep_bstmts : {ss : StmtTrees} {xs ys : List Terminal} → DerivesBstmts ss xs ys → ℕ
-  deep_bstmts bstmts_none = 0
-  deep_bstmts (bstmts_more d r) = max (deep_bstmt d) (deep_bstmts r)
-
-  pub deep_bstmt : {x : StmtTree} {xs ys : List Terminal} → DerivesBstmt x xs ys → ℕ
-  deep_bstmt (bstmt_local d) = deep_local d
-  deep_bstmt (bstmt_stmt d) = deep_stmt d
-
-  pub deep_stmt : {x : StmtTree} {xs ys : List Terminal} → DerivesStmt x xs ys → ℕ
-  deep_stmt (stmt_block d) = deep_block d
-  deep_stmt stmt_empty = 0
-  deep_stmt (stmt_effect d) = deep_expr d
-  deep_stmt (stmt_if c d h) = max (deep_expr c) (suc (deep_stmt d))
-  deep_stmt (stmt_if_else c d r) = max (deep_expr c) (max (suc (deep_stmt d)) (suc (deep_stmt r)))
-  deep_stmt (stmt_while c d) = max (deep_expr c) (suc (deep_stmt d))
-  deep_stmt (stmt_do d c) = max (suc (deep_stmt d)) (deep_expr c)
-  deep_stmt (stmt_for i c u d) = max (max (deep_first i) (max (deep_optional c) (deep_updates u))) (suc (deep_stmt d))
-  deep_stmt (stmt_return c) = deep_optional c
-  deep_stmt stmt_break = 0
-  deep_stmt stmt_continue = 0
+use Rattle.jv_grammar.proofs.Depth.{less_ty, less_expr, less_init, fits_expr, fits_init}
+pub use Rattle.jv_grammar.specs.Depth.{deep_var, deep_vars, deep_local, deep_effects, deep_first, deep_optional, deep_updates, deep_block, deep_bstmts, deep_bstmt, deep_stmt}
 
 -- a derivation takes at least one terminal; what may be left out takes any number
 pub less_var : {v : VarTree} {xs ys : List Terminal} → DerivesVar v xs ys → length ys < length xs

@@ -8,6 +8,7 @@ pub mod TypeReader
 pub mod ExprReader
 pub mod StmtReader
 pub mod DeclReader
+pub mod Depth
 pub mod Width
 pub mod StmtWidth
 pub mod DeclWidth
@@ -15,6 +16,7 @@ pub mod Load
 pub mod LoadLaw
 pub mod Law
 pub mod FileLaw
+pub mod NestingLaw
 pub mod ExprExample
 pub mod FileExample
 pub mod Nesting

@@ -34,6 +34,24 @@ ghost use Rattle.jv_grammar.specs.LoadLaw.{
   FrontsAreShallow,
   ShallowHasFewBrackets,
 };
+ghost use Rattle.jv_grammar.specs.NestingLaw.{
+  TypesHaveFewPairs,
+  ExpressionsHaveFewPairs,
+  InitializersHaveFewPairs,
+  StatementsHaveFewPairs,
+  ExpressionsAreNotDeep,
+  InitializersAreNotDeep,
+  StatementsAreNotDeep,
+  FilesAreNotDeep,
+  ExpressionsNestByTheLoad,
+  InitializersNestByTheLoad,
+  StatementsNestByTheLoad,
+  FilesNestByTheLoad,
+  FewLevelsReadExpressions,
+  FewLevelsReadInitializers,
+  FewLevelsReadStatements,
+  FewLevelsReadFiles,
+};
 
 /// Shallow terminals derive at most one expression, one initializer and one type.
 pub fn expressions_derive_once()
@@ -113,4 +131,37 @@ pub fn fronts_are_shallow()
 /// In shallow terminals no more than 200 pairs of square brackets follow one another, whatever stands in them.
 pub fn shallow_has_few_brackets()
     ensures { ShallowHasFewBrackets }
+{}
+
+/// No type that derives from shallow terminals has more than 200 pairs of brackets.
+pub fn shallow_terminals_have_few_brackets()
+    ensures types { TypesHaveFewPairs }
+    ensures expressions { ExpressionsHaveFewPairs }
+    ensures initializers { InitializersHaveFewPairs }
+    ensures statements { StatementsHaveFewPairs }
+{}
+
+/// What derives nests at most twice as deep as the highest load of the terminals says.
+pub fn derivations_nest_by_the_load()
+    ensures expressions { ExpressionsAreNotDeep }
+    ensures initializers { InitializersAreNotDeep }
+    ensures statements { StatementsAreNotDeep }
+    ensures files { FilesAreNotDeep }
+{}
+
+/// What derives from shallow terminals nests at most twice as deep as their highest load says: readers that may nest so
+/// deep give it.
+pub fn nesting_is_bounded_by_the_load()
+    ensures expressions { ExpressionsNestByTheLoad }
+    ensures initializers { InitializersNestByTheLoad }
+    ensures statements { StatementsNestByTheLoad }
+    ensures files { FilesNestByTheLoad }
+{}
+
+/// Readers that may nest 400 levels deep give whatever derives from shallow terminals.
+pub fn readers_need_few_levels()
+    ensures expressions { FewLevelsReadExpressions }
+    ensures initializers { FewLevelsReadInitializers }
+    ensures statements { FewLevelsReadStatements }
+    ensures files { FewLevelsReadFiles }
 {}
