@@ -6,3 +6,11 @@ pub mod Readings
 pub mod Runs
 pub mod Texts
 pub mod Sources
+pub mod Numbers
+pub mod Faults
+pub mod NameTurns
+pub mod TypeTurns
+pub mod SuffixTurns
+pub mod StepTurns
+pub mod ListTurns
+pub mod LinkTurns

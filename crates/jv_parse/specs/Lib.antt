@@ -2,3 +2,5 @@ pub mod FlatWords
 pub mod FlatSource
 pub mod FlatPlaces
 pub mod Laws
+pub mod Naming
+pub mod View

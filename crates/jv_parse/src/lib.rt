@@ -6,14 +6,27 @@
 
 mod characters;
 mod declaration;
+mod expressions;
+mod fault;
 mod flat;
 mod flat_class;
 mod flat_fault;
+mod heads;
 mod keywords;
 pub mod laws;
+mod lists;
+mod marks;
+mod names;
+mod naming;
+mod nested;
+mod operators;
+mod primaries;
+mod steps;
 mod taken_names;
+mod terminals;
 #[cfg(test)]
 mod tests;
+mod types;
 mod words;
 
 pub use flat::parse_flat;
