@@ -25,7 +25,8 @@ use Rattle.sg_unit.specs.Law.{WaitersAreHeldUp, StuckUnitsAreHeldUp, ShownHolder
 use Rattle.sg_unit.specs.Operation.{goes_on, waits_by, woken_by}
 use Rattle.sg_unit.specs.Run.{Setting, RunOf, Asking, open_ask, units_of, asked_by, opened, held_after, advanced, ask_after, after, run_from, run_of, IsFor}
 use Rattle.sg_unit.specs.Step.{May, Replies, IsStep, IsRunFrom}
-use Rattle.sg_unit.specs.Waiting.{Blocks, IsStillOpen, HoldsNeed, Needs, IsWoken, IsHeldUp}
+use Rattle.sg_state.specs.Need.{Holds}
+use Rattle.sg_unit.specs.Waiting.{Blocks, IsStillOpen, Needs, IsWoken, IsHeldUp}
 use Rattle.sg_unit.proofs.Asks.{IsAskedRun, step_asked, opened_asked}
 use Rattle.sg_unit.proofs.Steps.{op_follows}
 use Rattle.sg_unit.proofs.Writes.{is_num, fresh_rows, fresh_data}
@@ -311,7 +312,7 @@ held_up {D} {P} z r ok u w =
           k.unsettled (inl ((λ s l b. none ns empty (Row s l) ((exact (Row s l)).1 b)), (λ s b. none ns empty (Datum s) ((exact (Datum s)).1 b))));
     }
   where
-    holder : (n : Need) (q : Query P) → Blocks (state_of r.held) (asked_by z q) n → (v : ℕ) × HoldsNeed r.held v n × IsTrue (r.live v)
+    holder : (n : Need) (q : Query P) → Blocks (state_of r.held) (asked_by z q) n → (v : ℕ) × Holds r.held v n × IsTrue (r.live v)
     holder (Row s l) q b = let x = open_from r.held s l b.4 in (x.0, x.1, ok.row_live x.0 s l x.1)
     holder (Datum s) q b = let x = unset_from r.held s b.4 in (x.0, x.1, ok.datum_live x.0 s x.1)
 
@@ -330,6 +331,6 @@ shown_holders_wait I R D P z log u n holder ok run no_more shown =
     let live : IsTrue ((run_of z log).live holder) = lives w n holder shown.holds in
     ((w.waiting u (shown.needs).0).live, live, no_more.1 holder live)
   where
-    lives : {r : RunOf D P} → IsWaitedRun z r → (n : Need) (v : ℕ) → HoldsNeed r.held v n → IsTrue (r.live v)
+    lives : {r : RunOf D P} → IsWaitedRun z r → (n : Need) (v : ℕ) → Holds r.held v n → IsTrue (r.live v)
     lives w (Row s l) v h = w.row_live v s l h
     lives w (Datum s) v h = w.datum_live v s h

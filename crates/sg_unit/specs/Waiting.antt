@@ -10,8 +10,8 @@ use Rattle.sg_query.specs.Query.{Asked}
 use Rattle.sg_query.specs.State.{RowBlocks, DatumBlocks, IsSettled}
 use Rattle.sg_state.specs.declared.need.Need.{Need}
 use Rattle.sg_state.specs.declared.need.Need.TheVariants.{Row, Datum}
-use Rattle.sg_state.specs.Held.{HeldOf, HoldsRow, HoldsDatum, state_of}
-use Rattle.sg_state.specs.Need.{need_cmp}
+use Rattle.sg_state.specs.Held.{HeldOf, state_of}
+use Rattle.sg_state.specs.Need.{need_cmp, Holds}
 use Rattle.sg_unit.specs.Run.{Setting, RunOf, open_ask, asked_by}
 
 -- it blocks the query
@@ -23,11 +23,6 @@ Blocks h q (Datum s) = DatumBlocks h q s
 abbrev pub IsStillOpen : {D : Type 0} → State D → Need → Type 0
 IsStillOpen h (Row s l) = IsOpen h s l
 IsStillOpen h (Datum s) = IsUnset h s
-
--- the unit holds the row or the datum
-abbrev pub HoldsNeed : {D : Type 0} → HeldOf D → ℕ → Need → Type 0
-HoldsNeed h u (Row s l) = HoldsRow h u s l
-HoldsNeed h u (Datum s) = HoldsDatum h u s
 
 -- the unit waits, and this blocks its query
 abbrev pub Needs : {D P : Type 0} → Setting D P → RunOf D P → ℕ → Need → Type 0
@@ -49,8 +44,8 @@ IsStuck r = ((u : ℕ) × IsTrue (r.live u)) × ((u : ℕ) → IsTrue (r.live u)
 pub record IsShown {D P : Type 0} (z : Setting D P) (r : RunOf D P) (u : ℕ) (n : Need) (holder : ℕ) : Type 0 where
   pub needs : Needs z r u n
   pub least : (m : Need) → Needs z r u m → need_cmp m n ≡ Less → ⊥
-  pub holds : HoldsNeed r.held holder n
-  pub first : (v : ℕ) → HoldsNeed r.held v n → v < holder → ⊥
+  pub holds : Holds r.held holder n
+  pub first : (v : ℕ) → Holds r.held v n → v < holder → ⊥
 
 -- the unit has an open ask that is not settled, all that blocks it has a live holder, and something does
 pub record IsHeldUp {D P : Type 0} (z : Setting D P) (r : RunOf D P) (u : ℕ) : Type 0 where
@@ -59,5 +54,5 @@ pub record IsHeldUp {D P : Type 0} (z : Setting D P) (r : RunOf D P) (u : ℕ) :
   pub asks : r.asks u ≡ open_ask query count
   pub live : IsTrue (r.live u)
   pub unsettled : IsSettled (state_of r.held) (asked_by z query) → ⊥
-  pub holders : (n : Need) → Blocks (state_of r.held) (asked_by z query) n → (v : ℕ) × HoldsNeed r.held v n × IsTrue (r.live v)
+  pub holders : (n : Need) → Blocks (state_of r.held) (asked_by z query) n → (v : ℕ) × Holds r.held v n × IsTrue (r.live v)
   pub some_need : (ns : List Need) → ((n : Need) → (Contains ns n) ↔ (Blocks (state_of r.held) (asked_by z query) n)) → ns ≡ [] → ⊥

@@ -66,6 +66,17 @@ needy_lives_so (Waits ns) n c = refl
 pub needy_lives : (ws : WaitsOf) (u : ℕ) (n : Need) → Contains (needs_at ws u) n → IsLive ws u
 needy_lives ws u n c = needy_lives_so (status_at ws u) n c
 
+not_live : (s : Status) → (IsTrue (is_live s) → ⊥) → s ≡ Ended
+not_live Ended n = refl
+not_live Runs n = absurd (n refl)
+not_live (Waits ns) n = absurd (n refl)
+
+-- to end what is no live unit changes nothing
+pub ended_itself : (ws : WaitsOf) (u : ℕ) → (IsLive ws u → ⊥) → slice_set ws u Ended ≡ ws
+ended_itself [] u n = refl
+ended_itself (w ∷ ws) zero n = ap (λ (x : Status). x ∷ ws) (sym (not_live w n))
+ended_itself (w ∷ ws) (suc u) n = ap (λ (x : WaitsOf). w ∷ x) (ended_itself ws u n)
+
 -- ---- counts
 
 pub one_of : (b c : Bool) → b ≡ c → cond {A = ℕ} b 1 0 ≡ cond {A = ℕ} c 1 0

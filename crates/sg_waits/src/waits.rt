@@ -96,8 +96,17 @@ impl Waits {
         }
     }
 
-    /// Ends a live unit, by a look-up for each need of it. Takes no memory.
+    /// Ends a unit, by a look-up for each need of it; one that is no live unit stays as it is. Takes no memory.
     pub fn end(&mut self, unit: u32)
+        ensures { self.new ≡ slice_set self.old unit Ended }
+    {
+        if units::is_live(&self.units, unit) {
+            self.end_live(unit);
+        }
+    }
+
+    /// Ends a live unit.
+    fn end_live(&mut self, unit: u32)
         requires live { IsLive self.old unit }
         ensures { self.new ≡ slice_set self.old unit Ended }
     {
