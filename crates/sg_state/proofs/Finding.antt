@@ -1,5 +1,5 @@
 -- What look-ups of a row and of a datum find.
-use Rattle.std.proofs.Common.{◌≡◌, ℕ, List, [], ◌∷◌, ◌==◌, length, arith, Bool, false, IsTrue, ◌↔◌, refl, sym, ap, ◌∙◌, subst, Option, Some, None, Bor}
+use Rattle.std.proofs.Common.{◌≡◌, ℕ, List, [], ◌∷◌, ◌==◌, length, arith, Bool, true, false, IsTrue, ◌↔◌, refl, sym, ap, ◌∙◌, subst, Option, Some, None, Bor}
 use Rattle.std.proofs.lemmas.Bool.Decides.{nat_tests}
 use Rattle.std.specs.BTreeMap.{is_at}
 use Rattle.std.specs.Cmp.{nat_cmp_total}
@@ -114,3 +114,8 @@ closed_is h s l (x ∷ xs) b e same = (
   where
     not_empty : (x : ℕ) (xs : List ℕ) → (length (x ∷ xs) == 0) ≡ false
     not_empty x xs = grind (arith, nat_tests)
+
+-- a row whose holders are these is open where there is one
+pub open_is : {D : Type 0} (h : HeldOf D) (s : Scope) (l : ℕ) (hs : List ℕ) (b : Bool) → b ≡ (length hs == 0) → ((u : ℕ) → (Contains hs u) ↔ (HoldsRow h u s l)) → b ≡ false → IsOpen (state_of h) s l
+open_is h s l [] b e same f = absurd (let t : b ≡ true = e in cc)
+open_is h s l (x ∷ xs) b e same f = open_to h x s l ((same x).0 (Contains-head x xs))

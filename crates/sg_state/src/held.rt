@@ -165,6 +165,27 @@ impl<I: Instance> Held<I> {
         self.holders(s, l).is_empty()
     }
 
+    /// The targets of a row that no unit holds, in rising order, by look-ups. None exactly where the row is open, and empty
+    /// where the scope is not one of the graph.
+    pub fn closed_row(&self, s: Scope, l: Label) -> Option<&[Scope]>
+        ensures closed { IfSome result (λ row. (IsOpen (state_of self.now) s l → ⊥) × (row.now ≡ row_of self.now.graph s l)) }
+        ensures open { IfNone result (IsOpen (state_of self.now) s l) }
+        ensures sound { IsHeld self.now }
+    {
+        let label = l.number();
+        match places::find_row(&self.places, s, label) {
+            Some(row) => {
+                let holders = row.holders.as_slice();
+                if holders.is_empty() {
+                    Some(row.targets.as_slice())
+                } else {
+                    None
+                }
+            }
+            None => Some(&[]),
+        }
+    }
+
     /// The unit that holds the datum of a scope, if the datum is unset, by a look-up.
     pub fn datum_holder(&self, s: Scope) -> Option<u32>
         ensures found { IfSome result (λ u. HoldsDatum self.now u s) }
@@ -207,6 +228,16 @@ impl<I: Instance> Held<I> {
         copied::add_edges(&self.places, &mut graph)?;
         copied::add_data::<I>(alloc, &self.places, &mut graph)?;
         Ok(graph)
+    }
+
+    /// Whether the unit is one of the graph and may make one more scope: each makes fewer than 2^32 - 1. Takes constant time.
+    pub fn has_room(&self, unit: u32) -> bool
+        ensures { IsTrue result ↔ ((unit < length self.now.made) × (slice_index self.now.made unit + 1 < 2 ^ 32)) }
+    {
+        match self.made.get(unit as usize) {
+            Some(count) => *count < u32::MAX,
+            None => false,
+        }
     }
 
     /// Makes the unit's next scope. The unit holds its rows with these labels, and its datum where that is wanted. Costs

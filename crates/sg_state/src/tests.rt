@@ -102,6 +102,7 @@ fn a_unit_adds_where_it_holds(rt: HostRuntime) -> Result<(), Fail> {
     }
     assert_eq!(rt; held.row(first, label), [second].as_slice());
     assert_eq!(rt; held.row(second, label), [].as_slice());
+    assert!(rt; held.closed_row(first, label).is_none());
     match held.datum_holder(first) {
         Some(unit) => held.set_datum(unit, first, 7),
         None => {}
@@ -113,7 +114,9 @@ fn a_unit_adds_where_it_holds(rt: HostRuntime) -> Result<(), Fail> {
         None => {}
     }
     assert!(rt; held.is_closed(first, label) && !held.is_closed(second, label));
+    assert_eq!(rt; held.closed_row(first, label), Some([second].as_slice()));
     held.end_unit(1);
+    assert_eq!(rt; held.closed_row(second, label), Some([].as_slice()));
     assert!(rt; held.is_closed(second, label));
     assert!(rt; matches!(held.datum(second), DatumState::Absent));
     Ok(())
@@ -250,6 +253,7 @@ fn serials_rise(rt: HostRuntime) -> Result<(), Fail> {
     assert_eq!(rt; second, Scope { unit: 0, serial: 1 });
     assert_eq!(rt; held.holders(second, label), [0].as_slice());
     assert_eq!(rt; held.datum_holder(second), Some(0));
+    assert!(rt; held.has_room(0) && !held.has_room(1));
     Ok(())
 }
 

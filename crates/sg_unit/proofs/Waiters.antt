@@ -70,7 +70,7 @@ place_or a b =
       | inr n ↦ inr (λ h. n (ap (λ (p : Scope × ℕ). p.0) h))
     ]
 
-open_or : {D : Type 0} (h : State D) (n : Need) → IsStillOpen h n ⊎ (IsStillOpen h n → ⊥)
+pub open_or : {D : Type 0} (h : State D) (n : Need) → IsStillOpen h n ⊎ (IsStillOpen h n → ⊥)
 open_or h (Row s l) = contained_or place_or h.open_rows (s, l)
 open_or h (Datum s) = contained_or scope_or h.unset s
 
@@ -108,7 +108,7 @@ unwoken z r h ws k u out n need =
 
 module _ {I R D P : Type 0} (z : Setting D P) where
   -- what a unit needs is still open after a step that does not wake it
-  kept_open : (r next : RunOf D P) (w : ℕ) (op : Op I R D P) (y : Reply I D P) → next.held ≡ held_after r.held w op → Replies z r next w op y → (u : ℕ) → IsTrue (not (list_any (λ v. eqb v u) (woken_by y))) → (n : Need) → Needs z r u n → IsStillOpen (state_of r.held) n → IsStillOpen (state_of (held_after r.held w op)) n
+  pub kept_open : (r next : RunOf D P) (w : ℕ) (op : Op I R D P) (y : Reply I D P) → next.held ≡ held_after r.held w op → Replies z r next w op y → (u : ℕ) → IsTrue (not (list_any (λ v. eqb v u) (woken_by y))) → (n : Need) → Needs z r u n → IsStillOpen (state_of r.held) n → IsStillOpen (state_of (held_after r.held w op)) n
   kept_open r next w (Fresh labels datum) y same s u out (Row t l) need o =
       let k = open_from r.held t l o in
       open_to (with_fresh r.held w labels datum) k.0 t l ((fresh_rows r.held w labels datum k.0 t l).1 (inl k.1))
@@ -236,7 +236,7 @@ module _ {I R D P : Type 0} (z : Setting D P) where
       absurd (let a = (ok.waiting u was).asks in let b = (m.1).1 in let e = sym b ∙ a in cc)
   own_wait r next ok u (End x) y m s w = absurd (cc)
 
-  step_waited : (r : RunOf D P) → IsWaitedRun z r → (e : Entry I R D P) → IsStep z r e → IsWaitedRun z (after r e)
+  pub step_waited : (r : RunOf D P) → IsWaitedRun z r → (e : Entry I R D P) → IsStep z r e → IsWaitedRun z (after r e)
   step_waited r ok e s =
       record {
         asked = step_asked z r ok.asked e s;

@@ -55,8 +55,11 @@ fn two_needs_wake_once(rt: HostRuntime) -> Result<(), Fail> {
     note(&mut waits, 2, 5)?;
     assert!(rt; waits.is_stuck());
     assert_eq!(rt; waits.needs(0), [row(1), row(2)].as_slice());
+    let found = waits.waiting_for(&[row(2), row(5)])?;
+    assert_eq!(rt; found.as_slice(), [0, 1, 2].as_slice());
     let woken = waits.woken_by(&[row(1), row(2)])?;
     assert_eq!(rt; woken.as_slice(), [0, 1].as_slice());
+    assert_eq!(rt; woken.into_vec().as_slice(), [0, 1].as_slice());
     assert!(rt; waits.runnable(0) && waits.runnable(1) && !waits.runnable(2));
     assert!(rt; !waits.is_stuck() && waits.needs(0).is_empty());
     let again = waits.woken_by(&[row(2), row(1)])?;

@@ -116,14 +116,25 @@ impl Waits {
         blocks::refresh(&self.units, &mut self.flags, unit);
     }
 
-    /// Makes all these live units run.
-    fn forget_all(&mut self, list: &[u32])
+    /// Makes all these live units run, by a look-up for each need of theirs. Takes no memory.
+    pub fn wake(&mut self, list: &[u32])
         requires live { (u : ℕ) → Contains list.now u → IsLive self.old u }
         ensures { self.new ≡ fold set_running self.old list.now }
     {
         for unit in list {
             self.forget(*unit);
         }
+    }
+
+    /// The units that wait for one of these needs, in rising order. Costs a look-up for each need, and for each unit that is
+    /// found. Changes nothing.
+    pub fn waiting_for(&self, gone: &[Need]) -> Result<Vec<u32>, AllocError>
+        ensures exact { IfOk result (λ v. (u : ℕ) → (Contains v.items u) ↔ (WaitsForOne self.now u gone.now)) }
+        ensures rising { IfOk result (λ v. IsRising nat_cmp v.items) }
+    {
+        let found = listings::waiting_for(self.alloc, &self.listings, gone)?;
+        let woken = Woken::of(self.alloc, &found)?;
+        Ok(woken.into_vec())
     }
 
     /// Makes the units run that wait for one of these needs, and gives them in rising order. Costs a look-up for each
@@ -136,7 +147,7 @@ impl Waits {
     {
         let found = listings::waiting_for(self.alloc, &self.listings, gone)?;
         let woken = Woken::of(self.alloc, &found)?;
-        self.forget_all(woken.as_slice());
+        self.wake(woken.as_slice());
         Ok(woken)
     }
 
@@ -167,6 +178,14 @@ impl Waits {
         ensures { IsTrue result ↔ IsStuck self.now }
     {
         self.running == 0 && self.waiting > 0
+    }
+
+    /// Whether, without this unit, some unit is live and each live unit waits. The unit itself runs. Takes constant time.
+    pub fn is_stuck_without(&self, unit: u32) -> bool
+        requires runs { status_at self.now unit ≡ Runs }
+        ensures { IsTrue result ↔ IsStuck (slice_set self.now unit Ended) }
+    {
+        self.running == 1 && self.waiting > 0
     }
 
     /// For each waiting unit its least need, with that need's least holder as listed, in rising order of units. Costs a

@@ -39,4 +39,11 @@ impl Woken {
     {
         self.units.as_slice()
     }
+
+    /// The units as a vector, without taking memory.
+    pub fn into_vec(self) -> Vec<u32>
+        ensures { result.items ≡ self }
+    {
+        self.units
+    }
 }

@@ -6,8 +6,8 @@ use Rattle.sg_waits.proofs.waits.Waits.woken_by.Goals as goal
 pub waiting_for-requires : goal.waiting_for-requires
 waiting_for-requires c = record { few = few_units c.self.inside.units.items c.self.inside.listings.keys c.self.inside.running c.self.inside.waiting c.self.invariant.0 }
 
-pub forget_all-requires : goal.forget_all-requires
-forget_all-requires c = record {
+pub wake-requires : goal.wake-requires
+wake-requires c = record {
   live = λ u k.
       let h = (which c.self.inside.units.items c.self.inside.listings.keys c.self.inside.running c.self.inside.waiting c.self.invariant.0 c.args.self.now c.self.view_is c.args.gone.now c.in_ok-found.found.keys c.as_slice.result.now (c.as_slice.ensures ∙ c.in_ok-woken.ensures) c.in_ok-found.ensures.ok u).0 k in
       needy_lives c.args.self.now u h.0 h.2;
@@ -18,4 +18,4 @@ returns-clause-woken c = which c.self.inside.units.items c.self.inside.listings.
 
 pub returns-clause-ok : goal.returns-clause-ok
 returns-clause-ok c =
-    rw c.forget_all.ensures (wakes_all c.args.self.now c.args.gone.now c.as_slice.result.now (which c.self.inside.units.items c.self.inside.listings.keys c.self.inside.running c.self.inside.waiting c.self.invariant.0 c.args.self.now c.self.view_is c.args.gone.now c.in_ok-found.found.keys c.as_slice.result.now (c.as_slice.ensures ∙ c.in_ok-woken.ensures) c.in_ok-found.ensures.ok))
+    rw c.wake.ensures (wakes_all c.args.self.now c.args.gone.now c.as_slice.result.now (which c.self.inside.units.items c.self.inside.listings.keys c.self.inside.running c.self.inside.waiting c.self.invariant.0 c.args.self.now c.self.view_is c.args.gone.now c.in_ok-found.found.keys c.as_slice.result.now (c.as_slice.ensures ∙ c.in_ok-woken.ensures) c.in_ok-found.ensures.ok))

@@ -2,7 +2,7 @@ use Rattle.std.proofs.Common.{sym, subst, take, get_or}
 use Rattle.std.proofs.lemmas.List.Elements.{Contains-get_or}
 use Rattle.sg_waits.specs.Waits.{WaitsOf, IsLive}
 use Rattle.sg_waits.proofs.Tables.{live_stays}
-use Rattle.sg_waits.proofs.waits.Waits.forget_all.Goals as goal
+use Rattle.sg_waits.proofs.waits.Waits.wake.Goals as goal
 
 pub forget-requires : goal.forget-requires
 forget-requires c =
