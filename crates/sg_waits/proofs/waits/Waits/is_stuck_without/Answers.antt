@@ -14,9 +14,10 @@ returns-then-self-eq1 c =
     let l = live_within c.self.inside.units.items c.args.unit (ap is_live status) in
     let t = ends c.self.inside.units.items c.self.inside.listings.keys c.self.inside.running c.self.inside.waiting c.self.invariant.0 c.args.unit l status in
     let none : c.self.inside.running - 1 ≡ 0 = omega (arith, c.if-self-eq1.true) in
-    subst (λ (ws : WaitsOf). (IsTrue (nat_lt 0 c.self.inside.waiting) → IsStuck (slice_set ws c.args.unit Ended)) × (IsStuck (slice_set ws c.args.unit Ended) → IsTrue (nat_lt 0 c.self.inside.waiting))) same
-      ((λ h. stuck (slice_set c.self.inside.units.items c.args.unit Ended) c.self.inside.listings.keys (c.self.inside.running - 1) c.self.inside.waiting t none (above_none c.self.inside.waiting h)),
-      (λ h. some_above c.self.inside.waiting (stuck_some (slice_set c.self.inside.units.items c.args.unit Ended) c.self.inside.listings.keys (c.self.inside.running - 1) c.self.inside.waiting t h)))
+    subst (λ (ws : WaitsOf). (IsTrue (nat_lt 0 c.self.inside.waiting) → IsStuck (slice_set ws c.args.unit Ended)) × (IsStuck (slice_set ws c.args.unit Ended) → IsTrue (nat_lt 0 c.self.inside.waiting))) same (
+      (λ h. stuck (slice_set c.self.inside.units.items c.args.unit Ended) c.self.inside.listings.keys (c.self.inside.running - 1) c.self.inside.waiting t none (above_none c.self.inside.waiting h)),
+      (λ h. some_above c.self.inside.waiting (stuck_some (slice_set c.self.inside.units.items c.args.unit Ended) c.self.inside.listings.keys (c.self.inside.running - 1) c.self.inside.waiting t h)),
+    )
 
 pub returns-else-self-eq1 : goal.returns-else-self-eq1
 returns-else-self-eq1 c =

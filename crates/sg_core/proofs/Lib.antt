@@ -1,0 +1,15 @@
+pub mod Allowing
+pub mod Answering
+pub mod Asked
+pub mod Beginning
+pub mod Blocking
+pub mod Closing
+pub mod Ends
+pub mod Holders
+pub mod Keeping
+pub mod KeptWrites
+pub mod Moving
+pub mod Progressing
+pub mod Standing
+pub mod Steps
+pub mod Telling

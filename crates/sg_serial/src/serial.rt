@@ -1,0 +1,73 @@
+ghost use Rattle.std.specs.Prelude.{◌≡◌, [], List, IfOk};
+ghost use Rattle.sg_core.specs.Core.{IsCore};
+ghost use Rattle.sg_serial.specs.Serial.{AreNew, HasRun, IsTeam, GoesOnFrom};
+ghost use Rattle.sg_serial.specs.Replies.{AreNone};
+
+use crate::giving::give;
+use crate::pushing::{push, settle};
+use sg_base::Instance;
+use sg_core::Core;
+use sg_unit::{Reply, Unit};
+use std::alloc::{AllocError, Global};
+
+/// No reply for each of so many units.
+fn no_replies<I: Instance>(alloc: Global, count: usize) -> Result<Vec<Option<Reply<I>>>, AllocError>
+    ensures { IfOk result (λ v. AreNone v.items count) }
+{
+    let mut replies = Vec::new(alloc);
+    for _unit in 0..count {
+        match replies.push(None) {
+            Ok(()) => {}
+            Err(_) => return Err(AllocError),
+        }
+    }
+    Ok(replies)
+}
+
+/// One step of a unit, if it runs: its ask goes on, or it gives its next operation.
+fn step<U: Unit>(
+    core: &mut Core<U::Inst, U::Outcome>,
+    units: &mut Vec<U>,
+    replies: &mut Vec<Option<Reply<U::Inst>>>,
+    unit: u32,
+) -> Result<(), AllocError>
+    requires core { IsCore U.Inst.wants U.Inst.same_datum core.old }
+    requires team { (start : List U) × IsTeam U.number U.fixed U.opening U.kinds U.stands start units.old.items replies.old.items core.old }
+    ensures team { (start : List U) → IsTeam U.number U.fixed U.opening U.kinds U.stands start units.old.items replies.old.items core.old → IfOk result (λ _. IsTeam U.number U.fixed U.opening U.kinds U.stands start units.new.items replies.new.items core.new) }
+    ensures core { IfOk result (λ _. IsCore U.Inst.wants U.Inst.same_datum core.new × GoesOnFrom core.old core.new) }
+{
+    if !core.is_runnable(unit) {
+        return Ok(());
+    }
+    if !push::<U>(core, replies, unit)? {
+        give::<U>(core, units, replies, unit)?;
+    }
+    Ok(())
+}
+
+/// Runs new units on a core at its opening until no unit can go on. A number in `order` makes one step of that unit where it
+/// runs, and is passed by otherwise; then the least unit that runs steps.
+///
+/// Each step costs what the core's operation costs, and the search for the least unit that runs.
+pub fn run_serial<U: Unit>(
+    alloc: Global,
+    core: Core<U::Inst, U::Outcome>,
+    units: Vec<U>,
+    order: &[u32],
+) -> Result<Core<U::Inst, U::Outcome>, AllocError>
+    requires opening { core.log ≡ [] }
+    requires new { AreNew U.number U.fixed U.opening U.kinds U.stands core units.items }
+    ensures { IfOk result (HasRun U.Inst.wants U.Inst.same_datum U.number U.fixed U.stands core units.items) }
+{
+    let mut core = core;
+    let mut units = units;
+    let mut replies = no_replies(alloc, units.len())?;
+    let _log = core.log();
+    for unit in order {
+        step::<U>(&mut core, &mut units, &mut replies, *unit)?;
+    }
+    while let Some(unit) = settle::<U>(&mut core, &mut replies)? {
+        give::<U>(&mut core, &mut units, &mut replies, unit)?;
+    }
+    Ok(core)
+}
