@@ -11,7 +11,7 @@ use Rattle.sg_query.specs.declared.query.Query.{Query}
 use Rattle.sg_query.specs.Query.{Asked}
 use Rattle.sg_state.specs.declared.need.Need.{Need}
 use Rattle.sg_engine.specs.declared.found_at.FoundAt.{FoundAt}
-use Rattle.sg_engine.specs.declared.node.Node.{Node}
+use Rattle.sg_engine.specs.Nodes.{NodeOf as Node}
 use Rattle.sg_engine.specs.declared.progress.Progress.{Progress}
 use Rattle.sg_engine.specs.declared.progress.Progress.TheVariants.{Moved, Blocked, Ready}
 use Rattle.sg_engine.specs.declared.spent.Spent.{Spent}

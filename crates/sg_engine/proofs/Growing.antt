@@ -18,7 +18,7 @@ use Rattle.sg_query.specs.State.{Item, next, whole}
 use Rattle.sg_query.specs.Steps.{is_fresh}
 use Rattle.sg_query.proofs.Paths.{word_of-append, end_of-append}
 use Rattle.sg_engine.specs.declared.found_at.FoundAt.{FoundAt}
-use Rattle.sg_engine.specs.declared.node.Node.{Node}
+use Rattle.sg_engine.specs.Nodes.{NodeOf as Node}
 use Rattle.sg_engine.specs.declared.work.Work.{Work}
 use Rattle.sg_engine.specs.declared.work.Work.TheVariants.{Next, Whole}
 use Rattle.sg_engine.specs.Front.{Front, path_of, IsOffered, step_to}

@@ -8,10 +8,13 @@ pub mod Growing
 pub mod Keeping
 pub mod Listing
 pub mod Looking
+pub mod Moving
 pub mod Needing
 pub mod Offering
 pub mod Replying
+pub mod Resting
 pub mod Rooting
 pub mod Running
 pub mod Standing
 pub mod Stepping
+pub mod Taking

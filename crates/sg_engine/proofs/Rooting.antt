@@ -11,7 +11,7 @@ use Rattle.sg_expr.specs.declared.expr.Expr.{Expr}
 use Rattle.sg_expr.specs.Word.{In, IsContinuable}
 use Rattle.sg_query.specs.State.{Item, next, whole}
 use Rattle.sg_engine.specs.declared.found_at.FoundAt.{FoundAt}
-use Rattle.sg_engine.specs.declared.node.Node.{Node}
+use Rattle.sg_engine.specs.Nodes.{NodeOf as Node}
 use Rattle.sg_engine.specs.declared.work.Work.{Work}
 use Rattle.sg_engine.specs.declared.work.Work.TheVariants.{Next, Whole}
 use Rattle.sg_engine.specs.Front.{path_of, IsOffered}

@@ -13,7 +13,7 @@ use Rattle.sg_query.specs.State.{Item}
 use Rattle.sg_engine.specs.declared.found_at.FoundAt.{FoundAt}
 use Rattle.sg_engine.specs.declared.look.Look.{Look}
 use Rattle.sg_engine.specs.declared.look.Look.TheVariants.{Many, Over, Free}
-use Rattle.sg_engine.specs.declared.node.Node.{Node}
+use Rattle.sg_engine.specs.Nodes.{NodeOf as Node}
 use Rattle.sg_engine.specs.declared.tree.Tree.{Tree}
 use Rattle.sg_engine.specs.declared.work.Work.{Work}
 use Rattle.sg_engine.specs.declared.work.Work.TheVariants.{Next, Whole}

@@ -3,6 +3,7 @@ pub mod Front
 pub mod Growth
 pub mod Law
 pub mod Need
+pub mod Nodes
 pub mod Outcome
 pub mod Run
 pub mod Search

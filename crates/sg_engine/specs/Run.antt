@@ -1,15 +1,17 @@
 -- What a run over the items that are left does.
-use Rattle.std.specs.Prelude.{◌≡◌, ◌≢◌, ℕ, ◌+◌, ◌<◌, ◌≤◌, List, [], ◌∷◌, Bool, ◌⊎◌, length, drop}
+use Rattle.std.specs.Prelude.{◌≡◌, ◌≢◌, ℕ, ◌+◌, ◌<◌, ◌≤◌, List, [], ◌∷◌, ◌++◌, Bool, true, false, ◌⊎◌, length, drop}
 use Rattle.std.specs.List.{Contains}
 use Rattle.sg_base.specs.declared.scope.Scope.{Scope}
 use Rattle.sg_base.specs.State.{State}
 use Rattle.sg_query.specs.Answer.{most_paths}
 use Rattle.sg_query.specs.Query.{Asked}
 use Rattle.sg_query.specs.State.{Item}
+use Rattle.sg_engine.specs.declared.explore.Stepped.{Stepped}
+use Rattle.sg_engine.specs.declared.explore.Stepped.TheVariants as s
 use Rattle.sg_engine.specs.declared.found_at.FoundAt.{FoundAt}
 use Rattle.sg_engine.specs.declared.look.Look.{Look}
 use Rattle.sg_engine.specs.declared.look.Look.TheVariants.{Many, Over, Free}
-use Rattle.sg_engine.specs.declared.node.Node.{Node}
+use Rattle.sg_engine.specs.Nodes.{NodeOf as Node}
 use Rattle.sg_engine.specs.declared.progress.Progress.{Progress}
 use Rattle.sg_engine.specs.declared.progress.Progress.TheVariants.{Moved, Blocked, Ready}
 use Rattle.sg_engine.specs.declared.run.Run.{Run}
@@ -17,7 +19,7 @@ use Rattle.sg_engine.specs.declared.run.Run.TheVariants as r
 use Rattle.sg_engine.specs.declared.tree.Tree.{Tree}
 use Rattle.sg_engine.specs.declared.work.Work.{Work}
 use Rattle.sg_engine.specs.Front.{Stands, IsBlocked, AllBlocked}
-use Rattle.sg_engine.specs.Tree.{left_of, front_of, front_on, IsTreeOn, AllBlock, BlocksWork}
+use Rattle.sg_engine.specs.Tree.{path_at, paths_of, left_of, front_of, front_on, IsTreeOn, AllBlock, BlocksWork}
 
 -- too many paths go on; or blocked work was put aside, up to the queue's end, or up to the first that is free
 abbrev pub HasLooked : {D : Type 0} → State D → Tree D → Tree D → Look → Type 0
@@ -35,6 +37,23 @@ IsSearchOn h wants q start nodes left found explored going =
 -- the tree is that of a search for what the query asks, which stands in the state
 abbrev pub IsSearchIn : {D : Type 0} → State D → (D → Bool) → Asked D → Tree D → Type 0
 IsSearchIn h wants q t = IsSearchOn h wants q t.start t.nodes.items (left_of t) t.found.items t.explored t.going × (t.next ≤ length t.queue.items)
+
+-- where all that was put aside is blocked, it still is
+abbrev pub KeepsBlocked : {D : Type 0} → State D → Tree D → Tree D → Type 0
+KeepsBlocked h old new = AllBlock h old.start old.nodes.items old.blocked.items → AllBlock h new.start new.nodes.items new.blocked.items
+
+-- the item of this work was explored, and the paths that were there stay; or it is blocked, and was put aside
+abbrev pub HasTaken : {D : Type 0} → State D → Work → Tree D → Tree D → Bool → Type 0
+HasTaken h w old new true =
+    (new.explored ≡ old.explored + 1) × (new.blocked ≡ old.blocked) × ((k : ℕ) → k < length old.nodes.items → path_at (paths_of new.nodes.items) k ≡ path_at (paths_of old.nodes.items) k)
+HasTaken h w old new false =
+    BlocksWork h old.start old.nodes.items w × (new.blocked.items ≡ old.blocked.items ++ w ∷ []) × (new.nodes ≡ old.nodes) × (new.queue ≡ old.queue) × (new.next ≡ old.next) × (new.explored ≡ old.explored) × (new.going ≡ old.going)
+
+-- too many paths go on; or nothing free is left in the queue, and nothing was explored; or one item was
+abbrev pub HasStepped : {D : Type 0} → Tree D → Tree D → Stepped → Type 0
+HasStepped old new s.Many = (most_paths < new.going) × (new.explored ≡ old.explored)
+HasStepped old new s.Over = (new.going ≤ most_paths) × (new.explored ≡ old.explored) × (new.next ≡ length new.queue.items)
+HasStepped old new s.Explored = new.explored ≡ old.explored + 1
 
 -- what a run that may explore this many items comes to
 abbrev pub HasRun : {D : Type 0} → State D → ℕ → Tree D → Tree D → Run → Type 0

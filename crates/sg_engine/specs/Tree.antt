@@ -13,7 +13,7 @@ use Rattle.sg_query.specs.declared.found.Found.{Found}
 use Rattle.sg_query.specs.Query.{Asked}
 use Rattle.sg_query.specs.State.{Item, next, whole}
 use Rattle.sg_engine.specs.declared.found_at.FoundAt.{FoundAt}
-use Rattle.sg_engine.specs.declared.node.Node.{Node}
+use Rattle.sg_engine.specs.Nodes.{NodeOf as Node}
 use Rattle.sg_engine.specs.declared.spent.Spent.{Spent}
 use Rattle.sg_engine.specs.declared.tree.Tree.{Tree}
 use Rattle.sg_engine.specs.declared.work.Work.{Work}

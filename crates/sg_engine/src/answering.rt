@@ -21,7 +21,7 @@ fn path_to<D>(alloc: Global, tree: &Tree<D>, place: usize) -> Result<Path, Alloc
     let mut steps = Vec::new(alloc);
     let mut k = place;
     while k != 0 {
-        let node = &tree.nodes[k];
+        let node = tree.nodes.at(k);
         steps.push(node.step)?;
         k = node.parent;
     }

@@ -5,7 +5,7 @@ ghost use Rattle.sg_state.specs.Held.{state_of};
 ghost use Rattle.sg_engine.specs.Tree.{place_of, IsTree, AreNodes, BlocksWork, ListsOn};
 ghost use Rattle.sg_engine.specs.Run.{HasLooked};
 
-use crate::node::Node;
+use crate::nodes::Nodes;
 use crate::tree::Tree;
 use crate::work::Work;
 use sg_base::Instance;
@@ -24,14 +24,14 @@ pub enum Look {
 }
 
 /// Whether an item's row is open or its datum unset.
-fn is_blocked<I: Instance>(nodes: &[Node], h: &Held<I>, w: &Work) -> bool
-    requires there { place_of w.now < length nodes.now }
-    ensures blocked { (e : ExprOf) (start : ScopeOf) → AreNodes e start nodes.now → IsTrue result → BlocksWork (state_of h.now) start nodes.now w.now }
-    ensures free { (e : ExprOf) (start : ScopeOf) → AreNodes e start nodes.now → IsFalse result → BlocksWork (state_of h.now) start nodes.now w.now → ⊥ }
+fn is_blocked<I: Instance>(nodes: &Nodes, h: &Held<I>, w: &Work) -> bool
+    requires there { place_of w.now < length nodes.now.items }
+    ensures blocked { (e : ExprOf) (start : ScopeOf) → AreNodes e start nodes.now.items → IsTrue result → BlocksWork (state_of h.now) start nodes.now.items w.now }
+    ensures free { (e : ExprOf) (start : ScopeOf) → AreNodes e start nodes.now.items → IsFalse result → BlocksWork (state_of h.now) start nodes.now.items w.now → ⊥ }
 {
     match *w {
-        Work::Next(k, l) => !h.is_closed(nodes[k].step.to, l),
-        Work::Whole(k) => h.datum_holder(nodes[k].step.to).is_some(),
+        Work::Next(k, l) => !h.is_closed(nodes.at(k).step.to, l),
+        Work::Whole(k) => h.datum_holder(nodes.at(k).step.to).is_some(),
     }
 }
 

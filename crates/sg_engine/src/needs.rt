@@ -9,19 +9,19 @@ ghost use Rattle.sg_engine.specs.Need.{need_of};
 ghost use Rattle.sg_state.specs.Need.{need_cmp};
 ghost use Rattle.sg_engine.specs.Tree.{paths_of, item_of, place_of, AreNodes};
 
-use crate::node::Node;
+use crate::nodes::Nodes;
 use crate::work::Work;
 use sg_state::Need;
 use std::alloc::{AllocError, Global};
 
 /// What work that is blocked waits for.
-fn need_at(nodes: &[Node], w: &Work) -> Need
-    requires there { place_of w.now < length nodes.now }
-    ensures { (e : ExprOf) (start : ScopeOf) → AreNodes e start nodes.now → result ≡ need_of start (item_of (paths_of nodes.now) w.now) }
+fn need_at(nodes: &Nodes, w: &Work) -> Need
+    requires there { place_of w.now < length nodes.now.items }
+    ensures { (e : ExprOf) (start : ScopeOf) → AreNodes e start nodes.now.items → result ≡ need_of start (item_of (paths_of nodes.now.items) w.now) }
 {
     match *w {
-        Work::Next(k, l) => Need::Row(nodes[k].step.to, l),
-        Work::Whole(k) => Need::Datum(nodes[k].step.to),
+        Work::Next(k, l) => Need::Row(nodes.at(k).step.to, l),
+        Work::Whole(k) => Need::Datum(nodes.at(k).step.to),
     }
 }
 
@@ -45,10 +45,10 @@ fn insert(needs: &mut Vec<Need>, need: Need) -> Result<(), AllocError>
 }
 
 /// The rising list of what blocked work waits for.
-pub fn needs_of(alloc: Global, nodes: &[Node], blocked: &[Work]) -> Result<Vec<Need>, AllocError>
-    requires there { AllByRecursion (λ w. place_of w < length nodes.now) blocked.now }
+pub fn needs_of(alloc: Global, nodes: &Nodes, blocked: &[Work]) -> Result<Vec<Need>, AllocError>
+    requires there { AllByRecursion (λ w. place_of w < length nodes.now.items) blocked.now }
     ensures rising { IfOk result (λ r. IsRising need_cmp r.items) }
-    ensures exact { IfOk result (λ r. (e : ExprOf) (start : ScopeOf) → AreNodes e start nodes.now → (n : NeedOf) → (Contains r.items n) ↔ ((w : WorkOf) × Contains blocked.now w × (n ≡ need_of start (item_of (paths_of nodes.now) w)))) }
+    ensures exact { IfOk result (λ r. (e : ExprOf) (start : ScopeOf) → AreNodes e start nodes.now.items → (n : NeedOf) → (Contains r.items n) ↔ ((w : WorkOf) × Contains blocked.now w × (n ≡ need_of start (item_of (paths_of nodes.now.items) w)))) }
 {
     let mut needs = Vec::new(alloc);
     for w in blocked {

@@ -4,7 +4,7 @@ ghost use Rattle.sg_state.specs.Held.{IsHeld, state_of};
 ghost use Rattle.sg_engine.specs.Tree.{ListsOn, LeadsBack};
 ghost use Rattle.sg_engine.specs.Run.{IsSearchIn, HasRun, IsReply};
 
-use crate::explore::explore;
+use crate::explore::{Stepped, explore_next};
 use crate::look::{Look, look_on};
 use crate::progress::Progress;
 use crate::spent::Spent;
@@ -41,13 +41,10 @@ fn run_on<I: Instance>(
     ensures lists { ListsOn tree.old tree.new }
 {
     for n in 0..most {
-        match look_on(tree, h)? {
-            Look::Many => return Ok(Run::Many),
-            Look::Over => return Ok(Run::Over(most - n)),
-            Look::Free(w) => {
-                tree.next += 1;
-                explore::<I>(alloc, tree, h, pred, w)?;
-            }
+        match explore_next::<I>(alloc, tree, h, pred)? {
+            Stepped::Many => return Ok(Run::Many),
+            Stepped::Over => return Ok(Run::Over(most - n)),
+            Stepped::Explored => {}
         }
     }
     match look_on(tree, h)? {

@@ -8,10 +8,12 @@ ghost use Rattle.sg_query.specs.Steps.{is_fresh};
 ghost use Rattle.sg_engine.specs.declared.work.Work.{Work as WorkOf};
 ghost use Rattle.sg_engine.specs.Front.{step_to};
 ghost use Rattle.sg_engine.specs.Growth.{Gains, into_targets, no_front};
+ghost use Rattle.sg_engine.specs.Nodes.{IsRestAfter};
 ghost use Rattle.sg_engine.specs.Tree.{path_at, paths_of, expr_of, IsWorkOf, front_of, IsTree, IsFrontOf, ListsOn};
 
 use crate::found_at::FoundAt;
-use crate::node::Node;
+use crate::nodes::Nodes;
+use crate::rest::Rest;
 use crate::work::Work;
 use sg_base::{Label, Scope, Step};
 use sg_expr::Expr;
@@ -21,7 +23,7 @@ use std::alloc::{AllocError, Global};
 #[derive(Drop)]
 pub struct Tree<D> {
     pub start: Scope,
-    pub nodes: Vec<Node>,
+    pub nodes: Nodes,
     pub blocked: Vec<Work>,
     pub queue: Vec<Work>,
     pub next: usize,
@@ -31,8 +33,8 @@ pub struct Tree<D> {
 }
 
 /// Adds what the path of a node offers.
-fn push_offers(rest: &Expr, place: usize, queue: &mut Vec<Work>) -> Result<(), AllocError>
-    ensures offers { OnOk result ((ws : List WorkOf) × (queue.new.items ≡ queue.old.items ++ ws) × IsDistinct ws × (length ws ≤ 17) × ((x : WorkOf) → (Contains ws x) ↔ (IsWorkOf rest.now place x))) }
+fn push_offers(rest: &Rest, place: usize, queue: &mut Vec<Work>) -> Result<(), AllocError>
+    ensures offers { OnOk result ((ws : List WorkOf) × (queue.new.items ≡ queue.old.items ++ ws) × IsDistinct ws × (length ws ≤ 17) × ((x : WorkOf) → (Contains ws x) ↔ (IsWorkOf rest.now.expr place x))) }
     ensures lists { IsFrontOf queue.old.items queue.new.items }
 {
     let heads = rest.heads();
@@ -55,19 +57,12 @@ impl<D> Tree<D> {
         ensures expr { IfOk result (λ t. expr_of t.nodes.items ≡ rest) }
         ensures tree { (e : ExprOf) → ((w : Word) → (In rest w) ↔ (In e w)) → IfOk result (λ t. IsTree e t × Gains e no_front (front_of t) ([] ∷ [])) }
     {
+        let label = Label::new(0);
+        let rest = Rest::new(rest, 0, label);
         let mut queue = Vec::new(alloc);
         push_offers(&rest, 0, &mut queue)?;
         let going = if rest.goes_on() { 1 } else { 0 };
-        let step = Step {
-            label: Label::new(0),
-            to: start,
-        };
-        let mut nodes = Vec::new(alloc);
-        nodes.push(Node {
-            parent: 0,
-            step,
-            rest,
-        })?;
+        let nodes = Nodes::root(alloc, Step { label, to: start }, rest)?;
         Ok(Tree {
             start,
             nodes,
@@ -80,30 +75,32 @@ impl<D> Tree<D> {
         })
     }
 
-    /// Adds a path with one more step, and what it offers, in the time of the expression of the words that follow.
+    /// Adds a path with one more step, which these words follow, and what it offers.
     pub fn push_node(
         &mut self,
-        alloc: Global,
         parent: usize,
         l: Label,
         to: Scope,
+        rest: usize,
     ) -> Result<(), AllocError>
         requires there { parent < length self.old.nodes.items }
         requires few { self.old.going ≤ length self.old.nodes.items }
+        requires rest { rest < length self.old.nodes.rests }
+        requires after { IsRestAfter self.old.nodes parent l rest }
         ensures tree { (e : ExprOf) → IsTree e self.old → OnOk result (IsTree e self.new × Gains e (front_of self.old) (front_of self.new) ((path_at (paths_of self.old.nodes.items) parent ++ step_to l to ∷ []) ∷ [])) }
         ensures next { self.new.next ≡ self.old.next }
         ensures explored { self.new.explored ≡ self.old.explored }
         ensures blocked { self.new.blocked ≡ self.old.blocked }
+        ensures rests { self.new.nodes.rests ≡ self.old.nodes.rests }
         ensures lists { ListsOn self.old self.new }
         ensures more { OnOk result ((length self.old.nodes.items < length self.new.nodes.items) × (self.new.going ≤ length self.new.nodes.items)) }
     {
-        let rest = self.nodes[parent].rest.after(alloc, l)?;
-        push_offers(&rest, self.nodes.len(), &mut self.queue)?;
-        if rest.goes_on() {
+        let words = self.nodes.rest(rest);
+        push_offers(words, self.nodes.len(), &mut self.queue)?;
+        if words.goes_on() {
             self.going += 1;
         }
-        let step = Step { label: l, to };
-        self.nodes.push(Node { parent, step, rest })?;
+        self.nodes.push(parent, Step { label: l, to }, rest)?;
         Ok(())
     }
 
@@ -116,7 +113,7 @@ impl<D> Tree<D> {
     {
         let mut k = place;
         while k != 0 {
-            let node = &self.nodes[k];
+            let node = self.nodes.at(k);
             if node.step.to == t {
                 return false;
             }
@@ -125,7 +122,33 @@ impl<D> Tree<D> {
         t != self.start
     }
 
-    /// Adds the paths of a node with one more step into a row.
+    /// Adds the paths of a node with one more step to scopes, which these words follow.
+    fn push_targets(
+        &mut self,
+        row: &[Scope],
+        place: usize,
+        l: Label,
+        rest: usize,
+    ) -> Result<(), AllocError>
+        requires tree { (e : ExprOf) × IsTree e self.old }
+        requires there { place < length self.old.nodes.items }
+        requires rest { rest < length self.old.nodes.rests }
+        requires after { IsRestAfter self.old.nodes place l rest }
+        ensures tree { (e : ExprOf) → IsTree e self.old → OnOk result (IsTree e self.new × Gains e (front_of self.old) (front_of self.new) (into_targets self.old.start (path_at (paths_of self.old.nodes.items) place) l row.now)) }
+        ensures next { self.new.next ≡ self.old.next }
+        ensures explored { self.new.explored ≡ self.old.explored }
+        ensures blocked { self.new.blocked ≡ self.old.blocked }
+        ensures lists { ListsOn self.old self.new }
+    {
+        for t in row {
+            if self.is_fresh_at(place, *t) {
+                self.push_node(place, l, *t, rest)?;
+            }
+        }
+        Ok(())
+    }
+
+    /// Adds the paths of a node with one more step into a row. The words that follow are found once for them all.
     pub fn push_row(
         &mut self,
         alloc: Global,
@@ -141,11 +164,8 @@ impl<D> Tree<D> {
         ensures blocked { self.new.blocked ≡ self.old.blocked }
         ensures lists { ListsOn self.old self.new }
     {
-        for t in row {
-            if self.is_fresh_at(place, *t) {
-                self.push_node(alloc, place, l, *t)?;
-            }
-        }
+        let rest = self.nodes.derive(alloc, place, l)?;
+        self.push_targets(row, place, l, rest)?;
         Ok(())
     }
 }

@@ -1,4 +1,4 @@
-use Rattle.std.proofs.Common.{◌≡◌, ◌<◌, ◌++◌, [], List, ℕ, reverse, sym, ap, ◌∙◌, subst, arith}
+use Rattle.std.proofs.Common.{◌≡◌, ◌<◌, ◌++◌, ◌∷◌, [], List, ℕ, reverse, sym, ap, ◌∙◌, subst, arith}
 use Rattle.std.proofs.lemmas.List.{append-nil}
 use Rattle.sg_base.specs.declared.step.Step.{Step}
 use Rattle.sg_base.specs.Path.{PathOf}
@@ -15,11 +15,12 @@ loop-k-init g c = (c.requires.there, rw c.new-steps.ensures.items (sym (append-n
 pub loop-k-preserved : goal.loop-k-preserved
 loop-k-preserved g c =
     let t = c.args.tree.now in
-    let up = ((c.requires.tree.1).0).grown c.loop-k.k c.index-node.result.now (above c.loop-k.k c.loop-k-test.true) c.loop-k.invariant.0 c.index-node.ensures in
-    let near = c.loop-k.invariant.0 in (
-      omega (arith, up.0, near),
-      subst (λ (r : List Step). path_at (paths_of t.nodes.items) c.args.place ≡ path_at (paths_of t.nodes.items) c.index-node.result.now.parent ++ reverse r) (sym c.in_ok-push.ensures.items)
-          (path_up (path_at (paths_of t.nodes.items) c.args.place) (path_at (paths_of t.nodes.items) c.loop-k.k) (path_at (paths_of t.nodes.items) c.index-node.result.now.parent) c.loop-k.steps.items c.index-node.result.now.step c.loop-k.invariant.1 up.1),
+    let up = ((c.requires.tree.1).0).grown c.loop-k.k c.at-node.ensures.0 (above c.loop-k.k c.loop-k-test.true) c.loop-k.invariant.0 c.at-node.ensures.1 in
+    let near = c.loop-k.invariant.0 in
+    let here : path_at (paths_of t.nodes.items) c.loop-k.k ≡ path_at (paths_of t.nodes.items) c.at-node.result.now.parent ++ c.at-node.result.now.step ∷ [] = rw (c.at-node.ensures.2, c.at-node.ensures.3) up.1 in (
+      omega (arith, up.0, near, c.at-node.ensures.2),
+      subst (λ (r : List Step). path_at (paths_of t.nodes.items) c.args.place ≡ path_at (paths_of t.nodes.items) c.at-node.result.now.parent ++ reverse r) (sym c.in_ok-push.ensures.items)
+          (path_up (path_at (paths_of t.nodes.items) c.args.place) (path_at (paths_of t.nodes.items) c.loop-k.k) (path_at (paths_of t.nodes.items) c.at-node.result.now.parent) c.loop-k.steps.items c.at-node.result.now.step c.loop-k.invariant.1 here),
     )
 
 pub returns : goal.returns

@@ -15,7 +15,7 @@ is_blocked-requires g c =
     let fits : u.next < length u.queue.items = omega (arith, c.loop-tree-test.true, c.len.ensures, u.queue.ok.0) in
     let head : drop u.next u.queue.items ≡ w ∷ drop (u.next + 1) u.queue.items = queue_at u.queue.items u.next w fits c.index.ensures in
     let placed : place_of w < length t.nodes.items = next_is (λ (w : Work). place_of w < length t.nodes.items) u.blocked.items u.queue.items (left_of t) u.next w head c.loop-tree.invariant.7 ((c.requires.tree.1).0).left_in in
-    record { there = rw (c.deref.ensures.value, c.loop-tree.invariant.1) placed }
+    record { there = rw c.loop-tree.invariant.1 placed }
 
 pub returns-then-not-is_blocked-clause-lists : goal.returns-then-not-is_blocked-clause-lists
 returns-then-not-is_blocked-clause-lists g c =
@@ -37,7 +37,7 @@ returns-then-not-is_blocked-clause-looked g c =
     let w = c.index.result.now in
     let fits : u.next < length u.queue.items = omega (arith, c.loop-tree-test.true, c.len.ensures, u.queue.ok.0) in
     let head : drop u.next u.queue.items ≡ w ∷ drop (u.next + 1) u.queue.items = queue_at u.queue.items u.next w fits c.index.ensures in
-    let said = rw (c.deref.ensures.value, c.loop-tree.invariant.1) at c.is_blocked.ensures.free in (
+    let said = rw c.loop-tree.invariant.1 at c.is_blocked.ensures.free in (
       omega (arith, c.if-tree-gt-MOST_PATHS.false),
       c.loop-tree.invariant.7,
       subst (λ v. drop u.next v.items ≡ w ∷ drop (u.next + 1) v.items) c.loop-tree.invariant.2 head,
@@ -54,7 +54,7 @@ loop-tree-preserved g c =
     let w = c.index.result.now in
     let fits : u.next < length u.queue.items = omega (arith, c.loop-tree-test.true, c.len.ensures, u.queue.ok.0) in
     let head : drop u.next u.queue.items ≡ w ∷ drop (u.next + 1) u.queue.items = queue_at u.queue.items u.next w fits c.index.ensures in
-    let said = rw (c.deref.ensures.value, c.loop-tree.invariant.1) at c.is_blocked.ensures.blocked in
+    let said = rw c.loop-tree.invariant.1 at c.is_blocked.ensures.blocked in
     let blocks : BlocksWork h t.start t.nodes.items w = said c.requires.tree.0 t.start ((c.requires.tree.1).0).node c.if-not-is_blocked.false in
     let there : u.next < length t.queue.items = subst (λ v. u.next < length v.items) c.loop-tree.invariant.2 fits in (
       c.loop-tree.invariant.0,

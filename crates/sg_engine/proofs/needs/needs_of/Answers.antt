@@ -9,13 +9,13 @@ use Rattle.sg_engine.proofs.needs.needs_of.Goals as goal
 
 pub need_at-requires : goal.need_at-requires
 need_at-requires c =
-    record { there = each_at (λ (w : Work). place_of w < length c.args.nodes.now) c.args.blocked.now c.requires.there c.w-item.result (c.loop-w.w-index, c.loop-w-test.true, sym c.w-item.is) }
+    record { there = each_at (λ (w : Work). place_of w < length c.args.nodes.now.items) c.args.blocked.now c.requires.there c.w-item.result (c.loop-w.w-index, c.loop-w-test.true, sym c.w-item.is) }
 
 pub loop-w-preserved : goal.loop-w-preserved
 loop-w-preserved c = (
   c.in_ok-insert.ensures.rising,
   (λ e start nodes.
-      let f = λ (w : Work). need_of start (item_of (paths_of c.args.nodes.now) w) in
+      let f = λ (w : Work). need_of start (item_of (paths_of c.args.nodes.now.items) w) in
       let longer : take (c.loop-w.w-index + 1) c.args.blocked.now ≡ take c.loop-w.w-index c.args.blocked.now ++ c.w-item.result ∷ [] =
       take_more c.args.blocked.now c.loop-w.w-index c.w-item.result c.loop-w-test.true ∙ ap (λ (x : Work). take c.loop-w.w-index c.args.blocked.now ++ x ∷ []) (sym c.w-item.is) in
       rw longer (waits_more f (take c.loop-w.w-index c.args.blocked.now) c.w-item.result c.loop-w.needs.items c.insert.new.needs.items (rw (c.need_at.ensures e start nodes) at c.in_ok-insert.ensures.ok) (c.loop-w.invariant.1 e start nodes))),

@@ -10,4 +10,4 @@ use Rattle.sg_engine.proofs.needs.needs_of.Given as goal
 
 abbrev pub invariant-loop-w : goal.invariant-loop-w
 invariant-loop-w l =
-    IsRising need_cmp l.needs.items × ((e : Expr) (start : Scope) → AreNodes e start l.nodes → Waits (λ w. need_of start (item_of (paths_of l.nodes) w)) (take l.w-index l.blocked) l.needs.items)
+    IsRising need_cmp l.needs.items × ((e : Expr) (start : Scope) → AreNodes e start l.nodes.items → Waits (λ w. need_of start (item_of (paths_of l.nodes.items) w)) (take l.w-index l.blocked) l.needs.items)

@@ -7,7 +7,7 @@ returns-clause-outcome g c =
     elim c.match-progress.branch [
       | in-Moved w ↦ rw (w.in-Moved.is, w.needs-is, w.answer-is) (c.new-needs.ensures.items, refl)
       | in-Blocked+in_ok-needs-in-Blocked w ↦
-          let exact = rw (w.deref.ensures.value, w.deref-in-Blocked.ensures.value) at w.in_ok-needs-in-Blocked.ensures.exact in
+          let exact = rw w.deref.ensures.value at w.in_ok-needs-in-Blocked.ensures.exact in
           rw (w.in-Blocked.is, w.needs-is, w.answer-is) (refl, w.in_ok-needs-in-Blocked.ensures.rising, exact)
       | in-Ready+in_ok-answer_of-in-Ready w ↦ rw (w.in-Ready.is, w.needs-is, w.answer-is) (c.new-needs.ensures.items, (_, refl, w.in_ok-answer_of-in-Ready.ensures))
     ]

@@ -23,12 +23,12 @@ loop-n-preserved c = (
 pub returns-in_ok-push-2-clause-offers : goal.returns-in_ok-push-2-clause-offers
 returns-in_ok-push-2-clause-offers c =
     let last : c.loop-n.n ≡ 16 = omega (arith, c.loop-n-test.false, c.loop-n.auto.n-end) in
-    rw c.in_ok-push-2.ensures.items (offers_whole c.heads-heads.result c.args.place c.args.rest.now (c.loop-n.invariant.1 (omega (arith, last))) c.heads-heads.ensures c.args.queue.now.items c.loop-n.queue.items (subst (λ (n : ℕ). OfferedTo c.heads-heads.result c.args.place n c.args.queue.now.items c.loop-n.queue.items) last c.loop-n.invariant.0) (c.nullable.ensures.0 c.if-nullable.true))
+    rw c.in_ok-push-2.ensures.items (offers_whole c.heads-heads.result c.args.place c.args.rest.now.expr (c.loop-n.invariant.1 (omega (arith, last))) c.heads-heads.ensures c.args.queue.now.items c.loop-n.queue.items (subst (λ (n : ℕ). OfferedTo c.heads-heads.result c.args.place n c.args.queue.now.items c.loop-n.queue.items) last c.loop-n.invariant.0) (c.nullable.ensures.0 c.if-nullable.true))
 
 pub returns-else-nullable-clause-offers : goal.returns-else-nullable-clause-offers
 returns-else-nullable-clause-offers c =
     let last : c.loop-n.n ≡ 16 = omega (arith, c.loop-n-test.false, c.loop-n.auto.n-end) in
-    offers_next c.heads-heads.result c.args.place c.args.rest.now (c.loop-n.invariant.1 (omega (arith, last))) c.heads-heads.ensures c.args.queue.now.items c.loop-n.queue.items (subst (λ (n : ℕ). OfferedTo c.heads-heads.result c.args.place n c.args.queue.now.items c.loop-n.queue.items) last c.loop-n.invariant.0) (λ i. cc (c.nullable.ensures.1 i, c.if-nullable.false))
+    offers_next c.heads-heads.result c.args.place c.args.rest.now.expr (c.loop-n.invariant.1 (omega (arith, last))) c.heads-heads.ensures c.args.queue.now.items c.loop-n.queue.items (subst (λ (n : ℕ). OfferedTo c.heads-heads.result c.args.place n c.args.queue.now.items c.loop-n.queue.items) last c.loop-n.invariant.0) (λ i. cc (c.nullable.ensures.1 i, c.if-nullable.false))
 
 pub returns-in_ok-push-2-clause-lists : goal.returns-in_ok-push-2-clause-lists
 returns-in_ok-push-2-clause-lists c = rw c.in_ok-push-2.ensures.items (front_push c.args.queue.now.items c.loop-n.queue.items _ _ (c.loop-n.invariant.0).2)

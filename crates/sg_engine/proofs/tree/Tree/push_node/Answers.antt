@@ -1,18 +1,24 @@
 use Rattle.std.proofs.Common.{◌≡◌, length, arith}
+use Rattle.sg_engine.specs.Nodes.{rest_at}
 use Rattle.sg_engine.proofs.Growing.{pushed_going, pushed_ending}
+use Rattle.sg_engine.proofs.Resting.{there_is}
 use Rattle.sg_engine.proofs.tree.Tree.push_node.Goals as goal
 use Rattle.sg_engine.proofs.tree.Tree.push_node.Goals.{then-goes_on, else-goes_on}
 
 pub returns-clause-tree : goal.returns-clause-tree
 returns-clause-tree g c = λ e tree.
-    let size : c.len.result ≡ length c.args.self.now.nodes.items = omega (arith, c.len.ensures, c.args.self.now.nodes.ok.0) in
+    let t = c.args.self.now in
+    let rest = rest_at t.nodes.rests c.args.rest in
+    let over = there_is t.nodes.items c.args.parent c.requires.there in
+    let offers = rw c.rest-words.ensures at c.in_ok-push_offers.ensures.offers in
+    let goes = rw c.rest-words.ensures at c.goes_on.ensures in
     elim c.if-goes_on.branch [
       | then-goes_on w ↦
-          rw (c.in_ok-push.ensures.items, w.self-is)
-          (pushed_going e c.args.self.now.start c.args.self.now.nodes.items c.args.self.now.blocked.items c.args.self.now.queue.items c.args.self.now.next c.args.self.now.found.items c.args.self.now.explored c.args.self.now.going tree
-          c.args.parent c.requires.there c.index.result.now c.index.ensures c.args.l c.args.to c.in_ok-rest.rest c.in_ok-rest.ensures c.len.result size c.push_offers.new.queue.items c.in_ok-push_offers.ensures.offers (c.goes_on.ensures.0 w.if-goes_on.true))
+          rw (c.in_ok-push.ensures.ok, w.self-is)
+          (pushed_going e t.start t.nodes.items t.blocked.items t.queue.items t.next t.found.items t.explored t.going tree
+          c.args.parent c.requires.there over.0 over.1 c.args.l c.args.to rest (c.requires.after over.0 over.1) c.len.result c.len.ensures.len c.push_offers.new.queue.items offers (goes.0 w.if-goes_on.true))
       | else-goes_on w ↦
-          rw (c.in_ok-push.ensures.items, w.self-is)
-          (pushed_ending e c.args.self.now.start c.args.self.now.nodes.items c.args.self.now.blocked.items c.args.self.now.queue.items c.args.self.now.next c.args.self.now.found.items c.args.self.now.explored c.args.self.now.going tree
-          c.args.parent c.requires.there c.index.result.now c.index.ensures c.args.l c.args.to c.in_ok-rest.rest c.in_ok-rest.ensures c.len.result size c.push_offers.new.queue.items c.in_ok-push_offers.ensures.offers (λ k. cc (c.goes_on.ensures.1 k, w.if-goes_on.false)))
+          rw (c.in_ok-push.ensures.ok, w.self-is)
+          (pushed_ending e t.start t.nodes.items t.blocked.items t.queue.items t.next t.found.items t.explored t.going tree
+          c.args.parent c.requires.there over.0 over.1 c.args.l c.args.to rest (c.requires.after over.0 over.1) c.len.result c.len.ensures.len c.push_offers.new.queue.items offers (λ k. cc (goes.1 k, w.if-goes_on.false)))
     ]

@@ -1,0 +1,28 @@
+use Rattle.std.proofs.Common.{◌≡◌, subst, sym, IfOk}
+use Rattle.sg_state.specs.Held.{state_of}
+use Rattle.sg_engine.specs.declared.work.Work.{Work}
+use Rattle.sg_engine.specs.Run.{HasTaken}
+use Rattle.sg_engine.specs.Tree.{IsTreeWith, StandsWith}
+use Rattle.sg_engine.proofs.explore.take.Goals as goal
+
+pub take_row-requires-clause-tree : goal.take_row-requires-clause-tree
+take_row-requires-clause-tree g c = (c.requires.tree.0, subst (λ (x : Work). IsTreeWith c.requires.tree.0 x c.args.tree.now) c.in-Next.is c.requires.tree.1)
+
+pub take_datum-requires-clause-tree : goal.take_datum-requires-clause-tree
+take_datum-requires-clause-tree g c = (c.requires.tree.0, subst (λ (x : Work). IsTreeWith c.requires.tree.0 x c.args.tree.now) c.in-Whole.is c.requires.tree.1)
+
+pub returns-in-Next-clause-stands : goal.returns-in-Next-clause-stands
+returns-in-Next-clause-stands g c = λ q start wants tree s.
+    let t = c.args.tree.now in
+    c.take_row.ensures.stands q start (subst (λ (x : Work). IsTreeWith q.expr x t) c.in-Next.is tree) (subst (λ (x : Work). StandsWith (state_of c.args.h.now) q x t) c.in-Next.is s)
+
+pub returns-in-Whole-clause-stands : goal.returns-in-Whole-clause-stands
+returns-in-Whole-clause-stands g c = λ q start wants tree s.
+    let t = c.args.tree.now in
+    c.take_datum.ensures.stands q start wants (subst (λ (x : Work). IsTreeWith q.expr x t) c.in-Whole.is tree) (subst (λ (x : Work). StandsWith (state_of c.args.h.now) q x t) c.in-Whole.is s)
+
+pub returns-in-Next-clause-taken : goal.returns-in-Next-clause-taken
+returns-in-Next-clause-taken g c = rw c.in-Next.is c.take_row.ensures.taken
+
+pub returns-in-Whole-clause-taken : goal.returns-in-Whole-clause-taken
+returns-in-Whole-clause-taken g c = rw c.in-Whole.is c.take_datum.ensures.taken

@@ -1,0 +1,132 @@
+ghost use Rattle.std.specs.Prelude.{◌≡◌, ◌<◌, ◌^◌, [], ◌∷◌, ◌++◌, length, take, slice_index_or, IfSome, IfOk, OnOk, OnErr};
+ghost use Rattle.sg_engine.specs.Nodes.{NodeOf, RestOf, rest_at, IsRestAfter};
+
+use crate::rest::Rest;
+use sg_base::{Label, Step};
+use sg_expr::Expr;
+use std::alloc::{AllocError, Global};
+use std::marker::Model;
+
+/// A path as another path with one more step, by the place of that path's node, and the place of the words that may follow
+/// its word.
+#[derive(Clone, Copy, Debug)]
+pub struct Node {
+    pub parent: usize,
+    pub step: Step,
+    pub rest: usize,
+}
+
+/// Paths that share their fronts, each with the words that may follow its word. Words that follow the same words over the
+/// same label are kept once. The first node stands for the path with no step, and its step ends at the start.
+#[derive(Drop)]
+pub struct Nodes {
+    rests: Vec<Rest>,
+    nodes: Vec<Node>,
+}
+
+impl Model for Nodes {
+    ghost use Rattle.std.specs.Prelude.{◌<◌, length, map};
+    ghost use Rattle.std.specs.Coded.{codes};
+    ghost use Rattle.std.specs.List.{AllByRecursion};
+    ghost use Rattle.sg_expr.specs.contracts.expr.Expr as e;
+    ghost use Rattle.sg_engine.specs.Nodes.{NodesOf, AreRests, node_by};
+
+    ghost Value = { NodesOf };
+
+    ghost coded = { Prim.hlevel (codes, e.the_row.coded) };
+
+    ghost view = { λ n. record { rests = n.rests.items; items = map (node_by n.rests.items) n.nodes.items } };
+
+    ghost invariant = { λ n. AreRests n.rests.items × AllByRecursion (λ m. m.rest < length n.rests.items) n.nodes.items };
+}
+
+/// The place of the words that came from a rest over a label, if they are among these. Looks at each in turn, the latest
+/// first.
+fn find(rests: &[Rest], from: usize, l: Label) -> Option<usize>
+    ensures { IfSome result (λ i. (0 < i) × (i < length rests.now) × ((r : RestOf) → r ≡ slice_index_or rests.now i r → (r.from ≡ from) × (r.label ≡ l))) }
+{
+    let mut i = rests.len();
+    while 1 < i {
+        i -= 1;
+        if rests[i].comes_from(from, l) {
+            return Some(i);
+        }
+    }
+    None
+}
+
+impl Nodes {
+    /// The path with no step, by a step that ends at the start, and the words that follow it.
+    pub fn root(alloc: Global, step: Step, rest: Rest) -> Result<Nodes, AllocError>
+        ensures { IfOk result (λ n. (n.rests ≡ rest ∷ []) × (n.items ≡ record { parent = 0; step = step; rest = rest.expr } ∷ [])) }
+    {
+        let mut rests = Vec::new(alloc);
+        rests.push(rest)?;
+        let mut nodes = Vec::new(alloc);
+        nodes.push(Node {
+            parent: 0,
+            step,
+            rest: 0,
+        })?;
+        Ok(Nodes { rests, nodes })
+    }
+
+    /// How many paths there are.
+    pub fn len(&self) -> usize
+        ensures len { result ≡ length self.now.items }
+        ensures fits { result < 2 ^ 63 }
+    {
+        self.nodes.len()
+    }
+
+    /// The node at a place.
+    pub fn at(&self, place: usize) -> &Node
+        requires { place < length self.now.items }
+        ensures { (n : NodeOf) × (n ≡ slice_index_or self.now.items place n) × (result.now.parent ≡ n.parent) × (result.now.step ≡ n.step) }
+    {
+        &self.nodes[place]
+    }
+
+    /// The words at a place.
+    pub fn rest(&self, place: usize) -> &Rest
+        requires { place < length self.now.rests }
+        ensures { result.now.expr ≡ rest_at self.now.rests place }
+    {
+        &self.rests[place]
+    }
+
+    /// The place of the words that follow a path over a label. Takes them off the path's words the first time, and
+    /// looks them up after that.
+    pub fn derive(&mut self, alloc: Global, place: usize, l: Label) -> Result<usize, AllocError>
+        requires { place < length self.old.items }
+        ensures items { self.new.items ≡ self.old.items }
+        ensures rest { IfOk result (λ r. (r < length self.new.rests) × IsRestAfter self.new place l r) }
+    {
+        let from = self.nodes[place].rest;
+        if let Some(known) = find(&self.rests, from, l) {
+            return Ok(known);
+        }
+        let expr = self.rests[from].after(alloc, l)?;
+        let rest = self.rests.len();
+        self.rests.push(Rest::new(expr, from, l))?;
+        Ok(rest)
+    }
+
+    /// Adds a path with one more step, which these words follow.
+    pub fn push(&mut self, parent: usize, step: Step, rest: usize) -> Result<(), AllocError>
+        requires { rest < length self.old.rests }
+        ensures rests { self.new.rests ≡ self.old.rests }
+        ensures ok { OnOk result (self.new.items ≡ self.old.items ++ record { parent = parent; step = step; rest = rest_at self.old.rests rest } ∷ []) }
+        ensures err { OnErr result (self.new.items ≡ self.old.items) }
+    {
+        self.nodes.push(Node { parent, step, rest })?;
+        Ok(())
+    }
+
+    /// Takes back all paths but the first ones. Words that were derived stay.
+    pub fn truncate(&mut self, len: usize)
+        ensures { self.new.items ≡ take len self.old.items }
+    {
+        self.nodes.truncate(len);
+    }
+}
