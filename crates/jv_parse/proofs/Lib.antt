@@ -14,3 +14,17 @@ pub mod SuffixTurns
 pub mod StepTurns
 pub mod ListTurns
 pub mod LinkTurns
+pub mod AddedNames
+pub mod Answered
+pub mod ExprIdentifiers
+pub mod StmtIdentifiers
+pub mod DeclIdentifiers
+pub mod VariableTurns
+pub mod BlockTurns
+pub mod BranchTurns
+pub mod FirstIdentifiers
+pub mod ModifierTurns
+pub mod CommaTurns
+pub mod MemberTurns
+pub mod ImportTurns
+pub mod FileTurns

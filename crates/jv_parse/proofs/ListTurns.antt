@@ -42,19 +42,19 @@ some_inits ys is = Ok (is, ys)
 abbrev pub some_sizes : List Terminal → ℕ → ExprTrees → Reads (ExprTrees × ℕ)
 some_sizes ys n es = Ok ((es, n), ys)
 
-exprs_front_none : (xs : List Expr) → exprs_front xs t.no_exprs ≡ expr_trees xs
+pub exprs_front_none : (xs : List Expr) → exprs_front xs t.no_exprs ≡ expr_trees xs
 exprs_front_none [] = refl
 exprs_front_none (x ∷ xs) = ap (t.exprs (expr_tree x)) (exprs_front_none xs)
 
-exprs_front_push : (xs : List Expr) (x : Expr) (es : ExprTrees) → exprs_front (xs ++ x ∷ []) es ≡ exprs_front xs (t.exprs (expr_tree x) es)
+pub exprs_front_push : (xs : List Expr) (x : Expr) (es : ExprTrees) → exprs_front (xs ++ x ∷ []) es ≡ exprs_front xs (t.exprs (expr_tree x) es)
 exprs_front_push [] x es = refl
 exprs_front_push (y ∷ xs) x es = ap (t.exprs (expr_tree y)) (exprs_front_push xs x es)
 
-exprs_push : (xs : List Expr) (x : Expr) (r : Reads ExprTrees) → exprs_onto (xs ++ x ∷ []) r ≡ exprs_onto xs (r >>= λ s. some_exprs s.1 (t.exprs (expr_tree x) s.0))
+pub exprs_push : (xs : List Expr) (x : Expr) (r : Reads ExprTrees) → exprs_onto (xs ++ x ∷ []) r ≡ exprs_onto xs (r >>= λ s. some_exprs s.1 (t.exprs (expr_tree x) s.0))
 exprs_push xs x (Ok s) = ap (some_exprs s.1) (exprs_front_push xs x s.0)
 exprs_push xs x (Err e) = refl
 
-exprs_nil : (r : Reads ExprTrees) → exprs_onto [] r ≡ r
+pub exprs_nil : (r : Reads ExprTrees) → exprs_onto [] r ≡ r
 exprs_nil (Ok s) = refl
 exprs_nil (Err e) = refl
 

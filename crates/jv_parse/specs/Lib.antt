@@ -4,3 +4,7 @@ pub mod FlatPlaces
 pub mod Laws
 pub mod Naming
 pub mod View
+pub mod Identifiers
+pub mod Parse
+pub mod StmtView
+pub mod DeclView

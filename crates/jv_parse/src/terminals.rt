@@ -1,7 +1,7 @@
 //! The first of a list of terminals, and what stands behind it.
 
 ghost use Rattle.std.specs.Prelude.{◌≡◌, ◌<◌, ◌+◌, [], ◌∷◌, Ok, Err, true, false, length, MatchOption};
-ghost use Rattle.jv_grammar.specs.TypeGrammar.{starts};
+ghost use Rattle.jv_grammar.specs.TypeGrammar.{starts, starts_word};
 ghost use Rattle.jv_grammar.specs.ExprGrammar.{begins_plain, goes_on};
 ghost use Rattle.jv_grammar.specs.Reader.{rest_of, starts_ident};
 ghost use Rattle.jv_grammar.specs.TypeReader.{starts_pair};
@@ -49,6 +49,29 @@ pub(crate) fn behind(mark: u8, terminals: &[Terminal]) -> Option<&[Terminal]>
     match split(terminals) {
         Some((Terminal::Punct(_, number), behind)) => {
             if number == mark { Some(behind) } else { None }
+        }
+        _ => None,
+    }
+}
+
+/// Whether the first terminal is the keyword.
+pub(crate) fn starts_word(word: u8, terminals: &[Terminal]) -> bool
+    ensures { result ≡ starts_word word terminals.now }
+{
+    match split(terminals) {
+        Some((Terminal::Keyword(_, number), _)) => number == word,
+        _ => false,
+    }
+}
+
+/// The terminals behind the keyword, where it stands first.
+pub(crate) fn behind_word(word: u8, terminals: &[Terminal]) -> Option<&[Terminal]>
+    ensures { MatchOption result (starts_word word terminals.now ≡ false)
+        (λ r. (starts_word word terminals.now ≡ true) × (r.now ≡ rest_of terminals.now) × (length terminals.now ≡ length r.now + 1)) }
+{
+    match split(terminals) {
+        Some((Terminal::Keyword(_, number), behind)) => {
+            if number == word { Some(behind) } else { None }
         }
         _ => None,
     }

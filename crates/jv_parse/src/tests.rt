@@ -1,3 +1,7 @@
+mod nesting;
+mod shown;
+mod sources;
+
 use super::*;
 use std::alloc::AllocError;
 

@@ -1,0 +1,24 @@
+use Rattle.std.proofs.Common.{◌≡◌, ℕ, List, [], length, sym, ap, ◌∙◌}
+use Rattle.std.proofs.lemmas.List.{append-nil, length-map}
+use Rattle.jv_lex.specs.declared.token.Token.{Token}
+use Rattle.jv_parse.specs.Naming.{terminal_of}
+use Rattle.jv_parse.specs.Parse.{terminals_of}
+use Rattle.jv_parse.proofs.Answered.{few_identifiers}
+use Rattle.jv_parse.proofs.AddedNames.{adds_front}
+use Rattle.jv_parse.proofs.parser.parse.Goals as goal
+
+pub returns-in_err-terminals-clause-names : goal.returns-in_err-terminals-clause-names
+returns-in_err-terminals-clause-names c =
+    let e : _ = c.in_err-terminals.ensures.err in
+    adds_front c.args.source.now c.args.tokens.now e.0 e.1 c.args.names.now c.name_tokens.new.names e.2 e.3
+
+pub returns-clause-names : goal.returns-clause-names
+returns-clause-names c =
+    adds_front c.args.source.now c.args.tokens.now c.args.tokens.now [] c.args.names.now c.name_tokens.new.names (sym (append-nil c.args.tokens.now)) c.in_ok-terminals.ensures.named
+
+pub returns-clause-count : goal.returns-clause-count
+returns-clause-count c =
+    let source : List ℕ = c.args.source.now in
+    let tokens : List Token = c.args.tokens.now in
+    let terminals : c.deref.result.now ≡ terminals_of source c.name_tokens.new.names tokens = c.deref.ensures.value ∙ c.in_ok-terminals.ensures.terminals in
+    few_identifiers c.deref.result.now (length tokens) c.tree.result (ap length terminals ∙ length-map tokens (terminal_of source c.name_tokens.new.names)) c.tree.ensures

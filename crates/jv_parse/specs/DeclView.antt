@@ -1,0 +1,16 @@
+-- What functions that read parts of declarations return.
+use Rattle.std.specs.Prelude.{ℕ, List, Some, Ok}
+use Rattle.jv_tree.specs.StmtTree.{VarTree}
+use Rattle.jv_grammar.specs.declared.terminal.Terminal.{Terminal}
+use Rattle.jv_grammar.specs.Marks.{equals_sign}
+use Rattle.jv_grammar.specs.Reader.{Reads, ◌>>=◌, closed}
+use Rattle.jv_grammar.specs.ExprReader.{below, init_of}
+use Rattle.jv_grammar.specs.DeclReader.{ident_of, mods_of}
+
+-- modifiers, as a reader's result
+abbrev pub modifiers_of : List Terminal → Reads (List ℕ)
+modifiers_of xs = Ok (mods_of xs)
+
+-- a constant of an interface: an identifier and its initializer
+abbrev pub constant_of : ℕ → List Terminal → Reads VarTree
+constant_of n xs = ident_of xs >>= λ i. closed equals_sign i.0 i.1 >>= λ j. init_of (below n) j.1 >>= λ r. Ok (record { name = j.0; init = Some r.0 }, r.1)

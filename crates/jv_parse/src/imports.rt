@@ -1,0 +1,98 @@
+//! Packages and imports of files (JLS 7.4, 7.5).
+
+ghost use Rattle.std.specs.Prelude.{◌≡◌, Ok, Err, length, map};
+ghost use Rattle.std.specs.Option.{option_map};
+ghost use Rattle.jv_tree.specs.TypeTree.{ids_of};
+ghost use Rattle.jv_tree.specs.DeclTree.{import_tree};
+ghost use Rattle.jv_grammar.specs.DeclReader.{package_of, path_of, import_of, imports_of};
+ghost use Rattle.jv_parse.specs.View.{Gives};
+
+use crate::fault::{Fault, refused};
+use crate::marks::{DOT, SEMICOLON, STAR, WORD_IMPORT, WORD_PACKAGE};
+use crate::names::name;
+use crate::terminals::{behind, behind_word, identifier};
+use jv_grammar::Terminal;
+use jv_tree::{Import, Name, nodes};
+use std::alloc::Global;
+
+/// The package of a file, or else none.
+#[tactic(auto, using(crate::proofs::Faults::fails_bind), unfolding(jv_grammar::specs::DeclReader::package_of))]
+pub(crate) fn package<'a>(
+    alloc: Global,
+    terminals: &'a [Terminal],
+) -> Result<(Option<Name>, &'a [Terminal]), Fault>
+    ensures { Gives (λ r. (option_map ids_of r.0, r.1.now)) result (package_of terminals.now) }
+{
+    let Some(open) = behind_word(WORD_PACKAGE, terminals) else {
+        return Ok((None, terminals));
+    };
+    let (name, rest) = name(alloc, open)?;
+    let Some(after) = behind(SEMICOLON, rest) else {
+        return Err(refused(rest));
+    };
+    Ok((Some(name), after))
+}
+
+/// The name of an import, and whether `.*` stands behind it; at most as many identifiers as `count`.
+#[tactic(auto, using(crate::proofs::Faults::fails_bind))]
+fn path<'a>(
+    alloc: Global,
+    count: usize,
+    terminals: &'a [Terminal],
+) -> Result<(Import, &'a [Terminal]), Fault>
+    ensures { Gives (λ r. (import_tree r.0, r.1.now)) result (path_of count terminals.now) }
+{
+    let mut ids = Vec::new(alloc);
+    let mut rest = terminals;
+    for _i in 0..count {
+        let Some((next, after)) = identifier(rest) else {
+            return Err(refused(rest));
+        };
+        ids.push(next)?;
+        let Some(dotted) = behind(DOT, after) else {
+            return Ok((nodes::import(Name { ids }, false), after));
+        };
+        if let Some(end) = behind(STAR, dotted) {
+            return Ok((nodes::import(Name { ids }, true), end));
+        }
+        rest = dotted;
+    }
+    Err(refused(rest))
+}
+
+/// An import behind its keyword.
+#[tactic(auto, using(crate::proofs::Faults::fails_bind), unfolding(jv_grammar::specs::DeclReader::import_of))]
+fn import<'a>(alloc: Global, terminals: &'a [Terminal]) -> Result<(Import, &'a [Terminal]), Fault>
+    ensures { Gives (λ r. (import_tree r.0, r.1.now)) result (import_of terminals.now) }
+{
+    let (item, end) = path(alloc, terminals.len(), terminals)?;
+    let Some(after) = behind(SEMICOLON, end) else {
+        return Err(refused(end));
+    };
+    Ok((item, after))
+}
+
+/// Imports, fewer than `count`.
+#[tactic(auto, using(crate::proofs::Faults::fails_bind))]
+pub(crate) fn imports<'a>(
+    alloc: Global,
+    count: usize,
+    terminals: &'a [Terminal],
+) -> Result<(Vec<Import>, &'a [Terminal]), Fault>
+    ensures { Gives (λ r. (map import_tree r.0.items, r.1.now)) result (imports_of count terminals.now) }
+{
+    let mut items = Vec::new(alloc);
+    let mut rest = terminals;
+    for _i in 0..count {
+        let Some(open) = behind_word(WORD_IMPORT, rest) else {
+            return Ok((items, rest));
+        };
+        let (item, after) = match import(alloc, open) {
+            Ok(read) => read,
+            Err(fault) => return Err(fault),
+        };
+        items.push(item)?;
+        rest = after;
+    }
+    Err(refused(rest))
+}

@@ -1,0 +1,72 @@
+//! From the tokens of a source to its tree.
+
+ghost use Rattle.std.specs.Prelude.{◌≡◌, ℕ, ◌+◌, ◌<◌, ◌≤◌, ◌↔◌, ◌^◌, All, length, IfOk, Err};
+ghost use Rattle.jv_lex.specs.Source.{IsPlaced};
+ghost use Rattle.jv_tree.specs.DeclTree.{tree_of};
+ghost use Rattle.jv_grammar.specs.Load.{IsFirstDeep};
+ghost use Rattle.jv_parse.specs.declared.parse_fault.ParseFault.TheVariants.{TooDeep, NotInGrammar};
+ghost use Rattle.jv_parse.specs.Identifiers.{idents_unit};
+ghost use Rattle.jv_parse.specs.Naming.{names_with};
+ghost use Rattle.jv_parse.specs.Parse.{terminals_of, IsTreeOf, HasNoTree, Says, IsAnswered, AddsNames};
+
+use crate::fault::Fault;
+use crate::files::file;
+use crate::naming::name_tokens;
+use crate::parse_fault::ParseFault;
+use jv_grammar::laws::{readers_find_trees, readers_need_few_levels, shallow_files_derive_once};
+use jv_grammar::{Terminal, first_deep};
+use jv_lex::Token;
+use jv_tree::{Names, Unit};
+use std::alloc::Global;
+
+// How deep the tree of terminals may nest whose load stays below 201.
+const LEVELS: u32 = 400;
+
+/// The tree of a source of these tokens, as `lex` gives them (JLS 7.3, in the profile of `docs/JAVA-PROFILE.md`).
+///
+/// A source is `TooDeep` exactly where its load reaches 201, at the first token behind which it does, whatever else is
+/// wrong with it. Otherwise it is `NotInGrammar` exactly where no tree derives from its tokens, and the token is 0.
+/// `OutOfMemory` comes only where memory runs out, which may be before or after the others are known.
+///
+/// The texts of identifiers become names. The names that were there keep their numbers, with or without a fault, and
+/// each new one is the text of an identifier of the source. Without a fault of memory all its identifiers are named.
+///
+/// It takes time and memory linear in the source, as is expected of a hash, and nests at most 400 levels deep.
+pub fn parse(
+    alloc: Global,
+    source: &str,
+    tokens: &[Token],
+    names: &mut Names,
+) -> Result<Unit, ParseFault>
+    requires placed { All (IsPlaced source.now) tokens.now }
+    requires room { length names.old + length tokens.now < u32.MAX }
+    ensures tree { IfOk result (λ u. IsTreeOf (terminals_of source.now names.new tokens.now) (tree_of u)) }
+    ensures too_deep { IsAnswered result → (i : ℕ) →
+        (result ≡ Err (TooDeep i)) ↔ IsFirstDeep (terminals_of source.now names.new tokens.now) i }
+    ensures not_in_grammar { IsAnswered result → (i : ℕ) →
+        (result ≡ Err (NotInGrammar i)) ↔ ((i ≡ 0) × HasNoTree (terminals_of source.now names.new tokens.now)) }
+    ensures count { IfOk result (λ u. idents_unit (tree_of u) ≤ length tokens.now) }
+    ensures named { IsAnswered result → names.new ≡ names_with source.now names.old tokens.now }
+    ensures names { AddsNames source.now tokens.now names.old names.new }
+{
+    let terminals = name_tokens(alloc, source, tokens, names)?;
+    tree(alloc, &terminals)
+}
+
+// The tree of terminals.
+fn tree(alloc: Global, terminals: &[Terminal]) -> Result<Unit, ParseFault>
+    requires { length terminals.now < 2 ^ 32 }
+    ensures { Says terminals.now result }
+{
+    if let Some(token) = first_deep(terminals) {
+        return Err(ParseFault::TooDeep { token });
+    }
+    shallow_files_derive_once();
+    readers_find_trees();
+    readers_need_few_levels();
+    match file(alloc, LEVELS, terminals) {
+        Ok(unit) => Ok(unit),
+        Err(Fault::OutOfMemory) => Err(ParseFault::OutOfMemory),
+        Err(Fault::Refused(_)) => Err(ParseFault::NotInGrammar { token: 0 }),
+    }
+}

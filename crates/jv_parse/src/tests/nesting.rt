@@ -1,0 +1,340 @@
+//! Sources as deep as the load allows, and one level deeper, each on a thread of its own.
+
+use crate::{ParseFault, parse};
+use jv_lex::lex;
+use jv_tree::Names;
+use std::alloc::{AllocError, Global};
+use std::test::Fail;
+use std::thread;
+
+// How a source ended: the number of the token that is too deep, or one of these.
+const PARSED: u32 = 1_000_000;
+
+const REFUSED: u32 = 1_000_001;
+
+const OTHER: u32 = 1_000_002;
+
+fn outcome(alloc: Global, source: &str) -> u32 {
+    if source.len() > 100_000 {
+        return OTHER;
+    }
+    let Ok(tokens) = lex(alloc, source.as_bytes()) else {
+        return OTHER;
+    };
+    let mut names = Names::new(alloc);
+    if tokens.len() > 100_000 {
+        return OTHER;
+    }
+    match parse(alloc, source, &tokens, &mut names) {
+        Ok(_) => PARSED,
+        Err(ParseFault::TooDeep { token }) => token,
+        Err(ParseFault::NotInGrammar { .. }) => REFUSED,
+        Err(ParseFault::OutOfMemory) => OTHER,
+    }
+}
+
+// A front, a text so many times, a middle, another text as many times, and a rest.
+fn repeated(alloc: Global, parts: [&str; 5], times: u32) -> Result<String, AllocError> {
+    let [front, left, middle, right, rest] = parts;
+    let mut source = String::new(alloc);
+    source.push_str(front)?;
+    for _time in 0..times {
+        source.push_str(left)?;
+    }
+    source.push_str(middle)?;
+    for _time in 0..times {
+        source.push_str(right)?;
+    }
+    source.push_str(rest)?;
+    Ok(source)
+}
+
+// Parts of a source, how often they stand at most, and the first deep token where they stand once more.
+const DEEPEST: [([&str; 5], u32, u32); 20] = [
+    (["class A { int a = ", "(", "1", ")", "; }"], 198, 204),
+    (["class A { int a = ", "b(", "", ")", "; }"], 198, 403),
+    (["class A { int a = ", "b[", "0", "]", "; }"], 198, 403),
+    (["class A { int a = ", "- ", "1", "", "; }"], 198, 204),
+    (["class A { int a = ", "!", "b", "", "; }"], 198, 204),
+    (["class A { int a = ", "(int)", "b", "", "; }"], 198, 600),
+    (["class A { int a = ", "(int)-", "b", "", "; }"], 198, 798),
+    (["class A { int a = ", "(B)", "b", "", "; }"], 198, 600),
+    (["class A { int a = ", "b=", "b", "", "; }"], 198, 403),
+    (["class A { int a = ", "b?b:", "b", "", "; }"], 198, 799),
+    (["class A { int a = ", "b?", "b", ":b", "; }"], 198, 403),
+    (["class A { int[] a = ", "{", "", "}", "; }"], 198, 206),
+    (["class A { int a = ", "new A(", "", ")", "; }"], 198, 602),
+    (["", "class A {", "", "}", ""], 200, 602),
+    (["class A { void f() ", "{", "", "}", " }"], 199, 206),
+    (
+        ["class A { void f() { ", "if (b) ", "", "", "; } }"],
+        197,
+        797,
+    ),
+    (
+        ["class A { void f() { ", "if (b) ; else ", ";", "", "} }"],
+        197,
+        1191,
+    ),
+    (
+        ["class A { void f() { ", "while (b) ", ";", "", "} }"],
+        197,
+        797,
+    ),
+    (
+        ["class A { void f() { ", "for (;;) ", ";", "", "} }"],
+        197,
+        994,
+    ),
+    (
+        ["class A { void f() { ", "do { ", "", "} while (b);", "} }"],
+        98,
+        208,
+    ),
+];
+
+// The outcome of a source, on a thread with the stack that threads have.
+fn outcome_apart<R: thread::Threads>(rt: &R, alloc: Global, source: String) -> Result<u32, Fail> {
+    let child = thread::spawn(rt, move || outcome(alloc, &source))?;
+    Ok(child.join(rt))
+}
+
+#[test]
+fn deep_0(rt: HostRuntime) -> Result<(), Fail> {
+    let (parts, times, token) = DEEPEST[0];
+    let deepest = repeated(rt.alloc(), parts, times)?;
+    let found = outcome_apart(&rt, rt.alloc(), deepest)?;
+    assert_eq!(rt; found, PARSED, "{times}");
+    let deeper = repeated(rt.alloc(), parts, times + 1)?;
+    let found = outcome_apart(&rt, rt.alloc(), deeper)?;
+    assert_eq!(rt; found, token, "{times}");
+    Ok(())
+}
+
+#[test]
+fn deep_1(rt: HostRuntime) -> Result<(), Fail> {
+    let (parts, times, token) = DEEPEST[1];
+    let deepest = repeated(rt.alloc(), parts, times)?;
+    let found = outcome_apart(&rt, rt.alloc(), deepest)?;
+    assert_eq!(rt; found, PARSED, "{times}");
+    let deeper = repeated(rt.alloc(), parts, times + 1)?;
+    let found = outcome_apart(&rt, rt.alloc(), deeper)?;
+    assert_eq!(rt; found, token, "{times}");
+    Ok(())
+}
+
+#[test]
+fn deep_2(rt: HostRuntime) -> Result<(), Fail> {
+    let (parts, times, token) = DEEPEST[2];
+    let deepest = repeated(rt.alloc(), parts, times)?;
+    let found = outcome_apart(&rt, rt.alloc(), deepest)?;
+    assert_eq!(rt; found, PARSED, "{times}");
+    let deeper = repeated(rt.alloc(), parts, times + 1)?;
+    let found = outcome_apart(&rt, rt.alloc(), deeper)?;
+    assert_eq!(rt; found, token, "{times}");
+    Ok(())
+}
+
+#[test]
+fn deep_3(rt: HostRuntime) -> Result<(), Fail> {
+    let (parts, times, token) = DEEPEST[3];
+    let deepest = repeated(rt.alloc(), parts, times)?;
+    let found = outcome_apart(&rt, rt.alloc(), deepest)?;
+    assert_eq!(rt; found, PARSED, "{times}");
+    let deeper = repeated(rt.alloc(), parts, times + 1)?;
+    let found = outcome_apart(&rt, rt.alloc(), deeper)?;
+    assert_eq!(rt; found, token, "{times}");
+    Ok(())
+}
+
+#[test]
+fn deep_4(rt: HostRuntime) -> Result<(), Fail> {
+    let (parts, times, token) = DEEPEST[4];
+    let deepest = repeated(rt.alloc(), parts, times)?;
+    let found = outcome_apart(&rt, rt.alloc(), deepest)?;
+    assert_eq!(rt; found, PARSED, "{times}");
+    let deeper = repeated(rt.alloc(), parts, times + 1)?;
+    let found = outcome_apart(&rt, rt.alloc(), deeper)?;
+    assert_eq!(rt; found, token, "{times}");
+    Ok(())
+}
+
+#[test]
+fn deep_5(rt: HostRuntime) -> Result<(), Fail> {
+    let (parts, times, token) = DEEPEST[5];
+    let deepest = repeated(rt.alloc(), parts, times)?;
+    let found = outcome_apart(&rt, rt.alloc(), deepest)?;
+    assert_eq!(rt; found, PARSED, "{times}");
+    let deeper = repeated(rt.alloc(), parts, times + 1)?;
+    let found = outcome_apart(&rt, rt.alloc(), deeper)?;
+    assert_eq!(rt; found, token, "{times}");
+    Ok(())
+}
+
+#[test]
+fn deep_6(rt: HostRuntime) -> Result<(), Fail> {
+    let (parts, times, token) = DEEPEST[6];
+    let deepest = repeated(rt.alloc(), parts, times)?;
+    let found = outcome_apart(&rt, rt.alloc(), deepest)?;
+    assert_eq!(rt; found, PARSED, "{times}");
+    let deeper = repeated(rt.alloc(), parts, times + 1)?;
+    let found = outcome_apart(&rt, rt.alloc(), deeper)?;
+    assert_eq!(rt; found, token, "{times}");
+    Ok(())
+}
+
+#[test]
+fn deep_7(rt: HostRuntime) -> Result<(), Fail> {
+    let (parts, times, token) = DEEPEST[7];
+    let deepest = repeated(rt.alloc(), parts, times)?;
+    let found = outcome_apart(&rt, rt.alloc(), deepest)?;
+    assert_eq!(rt; found, PARSED, "{times}");
+    let deeper = repeated(rt.alloc(), parts, times + 1)?;
+    let found = outcome_apart(&rt, rt.alloc(), deeper)?;
+    assert_eq!(rt; found, token, "{times}");
+    Ok(())
+}
+
+#[test]
+fn deep_8(rt: HostRuntime) -> Result<(), Fail> {
+    let (parts, times, token) = DEEPEST[8];
+    let deepest = repeated(rt.alloc(), parts, times)?;
+    let found = outcome_apart(&rt, rt.alloc(), deepest)?;
+    assert_eq!(rt; found, PARSED, "{times}");
+    let deeper = repeated(rt.alloc(), parts, times + 1)?;
+    let found = outcome_apart(&rt, rt.alloc(), deeper)?;
+    assert_eq!(rt; found, token, "{times}");
+    Ok(())
+}
+
+#[test]
+fn deep_9(rt: HostRuntime) -> Result<(), Fail> {
+    let (parts, times, token) = DEEPEST[9];
+    let deepest = repeated(rt.alloc(), parts, times)?;
+    let found = outcome_apart(&rt, rt.alloc(), deepest)?;
+    assert_eq!(rt; found, PARSED, "{times}");
+    let deeper = repeated(rt.alloc(), parts, times + 1)?;
+    let found = outcome_apart(&rt, rt.alloc(), deeper)?;
+    assert_eq!(rt; found, token, "{times}");
+    Ok(())
+}
+
+#[test]
+fn deep_10(rt: HostRuntime) -> Result<(), Fail> {
+    let (parts, times, token) = DEEPEST[10];
+    let deepest = repeated(rt.alloc(), parts, times)?;
+    let found = outcome_apart(&rt, rt.alloc(), deepest)?;
+    assert_eq!(rt; found, PARSED, "{times}");
+    let deeper = repeated(rt.alloc(), parts, times + 1)?;
+    let found = outcome_apart(&rt, rt.alloc(), deeper)?;
+    assert_eq!(rt; found, token, "{times}");
+    Ok(())
+}
+
+#[test]
+fn deep_11(rt: HostRuntime) -> Result<(), Fail> {
+    let (parts, times, token) = DEEPEST[11];
+    let deepest = repeated(rt.alloc(), parts, times)?;
+    let found = outcome_apart(&rt, rt.alloc(), deepest)?;
+    assert_eq!(rt; found, PARSED, "{times}");
+    let deeper = repeated(rt.alloc(), parts, times + 1)?;
+    let found = outcome_apart(&rt, rt.alloc(), deeper)?;
+    assert_eq!(rt; found, token, "{times}");
+    Ok(())
+}
+
+#[test]
+fn deep_12(rt: HostRuntime) -> Result<(), Fail> {
+    let (parts, times, token) = DEEPEST[12];
+    let deepest = repeated(rt.alloc(), parts, times)?;
+    let found = outcome_apart(&rt, rt.alloc(), deepest)?;
+    assert_eq!(rt; found, PARSED, "{times}");
+    let deeper = repeated(rt.alloc(), parts, times + 1)?;
+    let found = outcome_apart(&rt, rt.alloc(), deeper)?;
+    assert_eq!(rt; found, token, "{times}");
+    Ok(())
+}
+
+#[test]
+fn deep_13(rt: HostRuntime) -> Result<(), Fail> {
+    let (parts, times, token) = DEEPEST[13];
+    let deepest = repeated(rt.alloc(), parts, times)?;
+    let found = outcome_apart(&rt, rt.alloc(), deepest)?;
+    assert_eq!(rt; found, PARSED, "{times}");
+    let deeper = repeated(rt.alloc(), parts, times + 1)?;
+    let found = outcome_apart(&rt, rt.alloc(), deeper)?;
+    assert_eq!(rt; found, token, "{times}");
+    Ok(())
+}
+
+#[test]
+fn deep_14(rt: HostRuntime) -> Result<(), Fail> {
+    let (parts, times, token) = DEEPEST[14];
+    let deepest = repeated(rt.alloc(), parts, times)?;
+    let found = outcome_apart(&rt, rt.alloc(), deepest)?;
+    assert_eq!(rt; found, PARSED, "{times}");
+    let deeper = repeated(rt.alloc(), parts, times + 1)?;
+    let found = outcome_apart(&rt, rt.alloc(), deeper)?;
+    assert_eq!(rt; found, token, "{times}");
+    Ok(())
+}
+
+#[test]
+fn deep_15(rt: HostRuntime) -> Result<(), Fail> {
+    let (parts, times, token) = DEEPEST[15];
+    let deepest = repeated(rt.alloc(), parts, times)?;
+    let found = outcome_apart(&rt, rt.alloc(), deepest)?;
+    assert_eq!(rt; found, PARSED, "{times}");
+    let deeper = repeated(rt.alloc(), parts, times + 1)?;
+    let found = outcome_apart(&rt, rt.alloc(), deeper)?;
+    assert_eq!(rt; found, token, "{times}");
+    Ok(())
+}
+
+#[test]
+fn deep_16(rt: HostRuntime) -> Result<(), Fail> {
+    let (parts, times, token) = DEEPEST[16];
+    let deepest = repeated(rt.alloc(), parts, times)?;
+    let found = outcome_apart(&rt, rt.alloc(), deepest)?;
+    assert_eq!(rt; found, PARSED, "{times}");
+    let deeper = repeated(rt.alloc(), parts, times + 1)?;
+    let found = outcome_apart(&rt, rt.alloc(), deeper)?;
+    assert_eq!(rt; found, token, "{times}");
+    Ok(())
+}
+
+#[test]
+fn deep_17(rt: HostRuntime) -> Result<(), Fail> {
+    let (parts, times, token) = DEEPEST[17];
+    let deepest = repeated(rt.alloc(), parts, times)?;
+    let found = outcome_apart(&rt, rt.alloc(), deepest)?;
+    assert_eq!(rt; found, PARSED, "{times}");
+    let deeper = repeated(rt.alloc(), parts, times + 1)?;
+    let found = outcome_apart(&rt, rt.alloc(), deeper)?;
+    assert_eq!(rt; found, token, "{times}");
+    Ok(())
+}
+
+#[test]
+fn deep_18(rt: HostRuntime) -> Result<(), Fail> {
+    let (parts, times, token) = DEEPEST[18];
+    let deepest = repeated(rt.alloc(), parts, times)?;
+    let found = outcome_apart(&rt, rt.alloc(), deepest)?;
+    assert_eq!(rt; found, PARSED, "{times}");
+    let deeper = repeated(rt.alloc(), parts, times + 1)?;
+    let found = outcome_apart(&rt, rt.alloc(), deeper)?;
+    assert_eq!(rt; found, token, "{times}");
+    Ok(())
+}
+
+#[test]
+fn deep_19(rt: HostRuntime) -> Result<(), Fail> {
+    let (parts, times, token) = DEEPEST[19];
+    let deepest = repeated(rt.alloc(), parts, times)?;
+    let found = outcome_apart(&rt, rt.alloc(), deepest)?;
+    assert_eq!(rt; found, PARSED, "{times}");
+    let deeper = repeated(rt.alloc(), parts, times + 1)?;
+    let found = outcome_apart(&rt, rt.alloc(), deeper)?;
+    assert_eq!(rt; found, token, "{times}");
+    Ok(())
+}
