@@ -55,4 +55,4 @@ pub use flat::parse_flat;
 pub use flat_class::FlatClass;
 pub use flat_fault::FlatFault;
 pub use parse_fault::ParseFault;
-pub use parser::parse;
+pub use parser::{PARSE_STACK, parse};

@@ -22,6 +22,10 @@ use std::alloc::Global;
 // How deep the tree of terminals may nest whose load stays below 201.
 const LEVELS: u32 = 400;
 
+/// How many bytes of stack a thread needs at most that calls `parse`, with room to spare: 64 MiB. Tested with the deepest
+/// sources of each kind, not proved.
+pub const PARSE_STACK: usize = 1 << 26;
+
 /// The tree of a source of these tokens, as `lex` gives them (JLS 7.3, in the profile of `docs/JAVA-PROFILE.md`).
 ///
 /// A source is `TooDeep` exactly where its load reaches 201, at the first token behind which it does, whatever else is

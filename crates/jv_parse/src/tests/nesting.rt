@@ -1,6 +1,6 @@
 //! Sources as deep as the load allows, and one level deeper, each on a thread of its own.
 
-use crate::{ParseFault, parse};
+use crate::{PARSE_STACK, ParseFault, parse};
 use jv_lex::lex;
 use jv_tree::Names;
 use std::alloc::{AllocError, Global};
@@ -93,9 +93,11 @@ const DEEPEST: [([&str; 5], u32, u32); 20] = [
     ),
 ];
 
-// The outcome of a source, on a thread with the stack that threads have.
+// The outcome of a source, on a thread with the stack that is said to be enough.
 fn outcome_apart<R: thread::Threads>(rt: &R, alloc: Global, source: String) -> Result<u32, Fail> {
-    let child = thread::spawn(rt, move || outcome(alloc, &source))?;
+    let child = thread::Builder::new()
+        .stack_size(PARSE_STACK)
+        .spawn(rt, move || outcome(alloc, &source))?;
     Ok(child.join(rt))
 }
 
