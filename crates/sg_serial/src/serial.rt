@@ -45,10 +45,15 @@ fn step<U: Unit>(
     Ok(())
 }
 
-/// Runs new units on a core at its opening until no unit can go on. A number in `order` makes one step of that unit where it
-/// runs, and is passed by otherwise; then the least unit that runs steps.
+/// Runs units that have given nothing yet, one for each number and listed by number, on a core at its opening, until none of
+/// them can go on. First each number in `order` makes one step of that unit, and is passed by where the unit has ended or
+/// waits, or where no unit has it. Then the least unit that runs steps, as long as there is one.
 ///
-/// Each step costs what the core's operation costs, and the search for the least unit that runs.
+/// The core that is answered has ended or is stuck: no unit is live, or some are and each of them waits. Want of memory may be
+/// met at any step; the core and the units are gone then.
+///
+/// Each step adds one entry to the log, and costs what the core's operation and the unit's `next` cost, and past `order` a
+/// search for the least unit that runs (`Core::least_runnable`). A number that is passed by costs a look-up.
 pub fn run_serial<U: Unit>(
     alloc: Global,
     core: Core<U::Inst, U::Outcome>,
