@@ -9,3 +9,6 @@ mod pushing;
 mod serial;
 
 pub use serial::run_serial;
+
+#[cfg(test)]
+mod tests;

@@ -1,0 +1,81 @@
+-- Small units of two, each of which holds a row, and may ask along the row of the other.
+use Rattle.std.specs.Prelude.{◌≡◌, ℕ, zero, suc, ◌<◌, List, [], ◌∷◌, Bool, true, false, Option, Some, None, length}
+use Rattle.sg_base.specs.declared.scope.Scope.{Scope}
+use Rattle.sg_query.specs.declared.kind.Kind.{Kind}
+use Rattle.sg_query.specs.declared.query.Query.{Query}
+use Rattle.sg_state.specs.Held.{HeldOf}
+use Rattle.sg_state.specs.Opening.{nobody}
+use Rattle.sg_unit.specs.declared.op.Op.{Op}
+use Rattle.sg_unit.specs.declared.op.Op.TheVariants.{AddEdge, CloseRow, Ask, End}
+use Rattle.sg_unit.specs.declared.reply.Reply.{Reply}
+use Rattle.sg_unit.specs.Trace.{Past}
+
+-- the two scopes
+abbrev pub first : Scope
+first = record { unit = nobody; serial = 0 }
+
+abbrev pub second : Scope
+second = record { unit = nobody; serial = 1 }
+
+-- unit 0 holds the row of the first scope with label 0, and unit 1 that of the second
+abbrev pub crossed : {D : Type 0} → HeldOf D
+crossed = record {
+  graph = record { scopes = first ∷ second ∷ []; edges = []; given = [] };
+  row_holds = (record { scope = first; label = 0; unit = 0 }) ∷ (record { scope = second; label = 0; unit = 1 }) ∷ [];
+  datum_holds = [];
+  made = 0 ∷ 0 ∷ [];
+}
+
+-- the number of a unit, by whether it is the second
+abbrev pub number_of : Bool → ℕ
+number_of false = 0
+number_of true = 1
+
+-- the scope whose row it holds, and the other one
+abbrev pub own_scope : Bool → Scope
+own_scope false = first
+own_scope true = second
+
+abbrev pub other_scope : Bool → Scope
+other_scope false = second
+other_scope true = first
+
+-- the query along the other's row
+abbrev pub across : {P : Type 0} → Bool → P → Query P
+across b p = record { start = other_scope b; kind = 0; pred = p }
+
+-- what a unit gives after so many operations: one that asks asks along the other's row, and ends; one that does not adds an edge to its
+-- own row, closes that, and ends
+abbrev pub worker_op : {I R D P : Type 0} → Bool → Bool → P → R → ℕ → Op I R D P
+worker_op b true p x zero = Ask (across b p)
+worker_op b true p x (suc n) = End x
+worker_op b false p x zero = AddEdge (own_scope b) 0 (other_scope b)
+worker_op b false p x (suc zero) = CloseRow (own_scope b) 0
+worker_op b false p x (suc (suc n)) = End x
+
+-- the traces after so many operations
+abbrev pub GaveSo : {I R D P : Type 0} → Bool → Bool → P → R → ℕ → Past I R D P → Option (Op I R D P) → Type 0
+GaveSo b a p x zero past given = (past ≡ []) × (given ≡ None)
+GaveSo b a p x (suc zero) past given = (past ≡ []) × (given ≡ Some (worker_op b a p x 0))
+GaveSo {I} {R} {D} {P} b a p x (suc (suc zero)) past given =
+    (y : Reply I D P) × (past ≡ (worker_op b a p x 0, y) ∷ []) × (given ≡ Some (worker_op b a p x 1))
+GaveSo {I} {R} {D} {P} b a p x (suc (suc (suc n))) past given =
+    (y : Reply I D P) × (w : Reply I D P) × (past ≡ (worker_op b a p x 0, y) ∷ (worker_op b a p x 1, w) ∷ []) × (given ≡ Some (worker_op b a p x 2))
+
+-- the unit stands for these traces, where the table has a kind
+abbrev pub WorkerStands : {I R D P : Type 0} → List Kind → Bool → Bool → P → R → ℕ → Past I R D P → Option (Op I R D P) → Type 0
+WorkerStands ks b a p x n past given = (0 < length ks) × GaveSo b a p x n past given
+
+-- what stays of a unit: whether it is the second, whether it asks, and its table
+abbrev pub fixed_part : Bool → Bool → List Kind → Bool × Bool × List Kind
+fixed_part b a ks = (b, a, ks)
+
+-- the edge that a unit owes, which does not ask
+abbrev pub IsWorkersEdge : Bool → Bool → Scope → ℕ → Scope → Type 0
+IsWorkersEdge b true s l t = ⊥
+IsWorkersEdge b false s l t = (s ≡ own_scope b) × (l ≡ 0) × (t ≡ other_scope b)
+
+-- the query that a unit may ask, which asks
+abbrev pub IsWorkersQuery : {P : Type 0} → Bool → Bool → P → Query P → Type 0
+IsWorkersQuery b true p q = q ≡ across b p
+IsWorkersQuery b false p q = ⊥
