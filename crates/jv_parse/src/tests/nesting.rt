@@ -107,7 +107,7 @@ fn deepest_sources(rt: HostRuntime) -> Result<(), Fail> {
         let deepest = repeated(rt.alloc(), parts, times)?;
         let found = outcome_apart(&rt, rt.alloc(), deepest)?;
         assert_eq!(rt; found, PARSED, "{times}");
-        let deeper = repeated(rt.alloc(), parts, times + 1)?;
+        let deeper = repeated(rt.alloc(), parts, times.wrapping_add(1))?;
         let found = outcome_apart(&rt, rt.alloc(), deeper)?;
         assert_eq!(rt; found, token, "{times}");
     }
