@@ -72,7 +72,7 @@ module _ {D : Type 0} (es : List (Scope × PlaceOf D)) (made : List ℕ) (lists 
   abbrev grown : List (Scope × PlaceOf D)
   grown = insert_entry scope_cmp es made_scope p
 
-  absent : (q : PlaceOf D) → Contains es (made_scope, q) → ⊥
+  pub absent : (q : PlaceOf D) → Contains es (made_scope, q) → ⊥
   absent q c = let k : n < slice_index made u = kept.serials made_scope (q, c) lt in absurd (omega (arith, k, next))
 
   adds : (q : Scope × PlaceOf D) → (Contains grown q) ↔ (Contains es q ⊎ (q ≡ (made_scope, p)))

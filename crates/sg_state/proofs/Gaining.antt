@@ -1,14 +1,14 @@
 -- Graphs that get scopes, edges or data, list by list.
-use Rattle.std.proofs.Common.{◌≡◌, List, [], ◌∷◌, ◌++◌, ◌⊎◌, ◌↔◌, inl, inr, refl, sym, ap, ◌∙◌, subst}
+use Rattle.std.proofs.Common.{◌≡◌, List, [], ◌∷◌, ◌++◌, ◌⊎◌, ◌↔◌, inl, inr, refl, sym, ap, ◌∙◌, subst, map}
 use Rattle.std.proofs.lemmas.List.Elements.{Contains-append_cases, Contains-append_left, Contains-append_right}
 use Rattle.std.specs.Cmp.{on_total}
-use Rattle.std.specs.List.{Contains}
+use Rattle.std.specs.List.{Contains, flat_map}
 use Rattle.std.specs.Ordering.{on}
 use Rattle.sg_base.specs.declared.scope.Scope.{Scope}
 use Rattle.sg_base.specs.Graph.{Edge, GraphOf, HasScope, IsGraph, AddsScope, AddsEdge, AddsDatum, edge_cmp, edge_total}
 use Rattle.sg_base.specs.List.{IsDistinct}
 use Rattle.sg_base.specs.Scope.{scope_cmp, scope_total}
-use Rattle.sg_base.proofs.Finite.{nothing_in, single, Contains-head, Contains-tail}
+use Rattle.sg_base.proofs.Finite.{nothing_in, single, Contains-head, Contains-tail, map-Contains, Contains-map, flat_map-Contains, Contains-flat_map}
 use Rattle.sg_base.proofs.Rising.{rising_one}
 use Rattle.sg_state.proofs.RisingLists.{rises_by_keys}
 use Rattle.sg_state.specs.Gains.{Gains, GainsScopes, GainsEdges, GainsData, Left, ScopesLeft, EdgesLeft, DataLeft}
@@ -23,6 +23,39 @@ gains_one {X} old new y h x = (
 
 pub gains_none : {X : Type 0} (old : List X) → Gains old old []
 gains_none old x = ((λ c. inl c), (λ s. elim s [ inl c ↦ c | inr n ↦ absurd (nothing_in x n) ]))
+
+-- lists with the same things
+pub same_things : {X : Type 0} (xs ys zs : List X) → ((x : X) → (Contains xs x) ↔ (Contains ys x)) → ((x : X) → (Contains ys x) ↔ (Contains zs x)) → (x : X) → (Contains xs x) ↔ (Contains zs x)
+same_things xs ys zs h k x = ((λ c. (k x).0 ((h x).0 c)), (λ c. (h x).1 ((k x).1 c)))
+
+module _ {X : Type 0} (xs ys : List X) (same : (x : X) → (Contains xs x) ↔ (Contains ys x)) where
+  pub same_images : {Y : Type 0} (f : X → Y) (y : Y) → (Contains (map f xs) y) ↔ (Contains (map f ys) y)
+  same_images {Y} f y = (
+    (λ c. let h = Contains-map f xs y c in subst (λ (z : Y). Contains (map f ys) z) (sym h.2) (map-Contains f ys h.0 ((same h.0).0 h.1))),
+    (λ c. let h = Contains-map f ys y c in subst (λ (z : Y). Contains (map f xs) z) (sym h.2) (map-Contains f xs h.0 ((same h.0).1 h.1))),
+  )
+
+  pub same_parts : {Y : Type 0} (f : X → List Y) (y : Y) → (Contains (flat_map f xs) y) ↔ (Contains (flat_map f ys) y)
+  same_parts f y = (
+    (λ c. let h = Contains-flat_map f xs y c in flat_map-Contains f ys h.0 y ((same h.0).0 h.1) h.2),
+    (λ c. let h = Contains-flat_map f ys y c in flat_map-Contains f xs h.0 y ((same h.0).1 h.1) h.2),
+  )
+
+  gains_same : (old new : List X) → Gains old new xs → Gains old new ys
+  gains_same old new gains x = (
+    (λ c. elim ((gains x).0 c) [ inl m ↦ inl m | inr m ↦ inr ((same x).0 m) ]),
+    (λ s. (gains x).1 (elim s [ inl m ↦ inl m | inr m ↦ inr ((same x).1 m) ])),
+  )
+
+module _ {D : Type 0} (old new : GraphOf D) where
+  pub scopes_by : (xs ys : List Scope) → ((x : Scope) → (Contains xs x) ↔ (Contains ys x)) → GainsScopes old new xs → GainsScopes old new ys
+  scopes_by xs ys same h = record { scopes = gains_same xs ys same old.scopes new.scopes h.scopes; edges = h.edges; given = h.given }
+
+  pub edges_by : (xs ys : List Edge) → ((x : Edge) → (Contains xs x) ↔ (Contains ys x)) → GainsEdges old new xs → GainsEdges old new ys
+  edges_by xs ys same h = record { scopes = h.scopes; edges = gains_same xs ys same old.edges new.edges h.edges; given = h.given }
+
+  pub data_by : (xs ys : List (Scope × D)) → ((x : Scope × D) → (Contains xs x) ↔ (Contains ys x)) → GainsData old new xs → GainsData old new ys
+  data_by xs ys same h = record { scopes = h.scopes; edges = h.edges; given = gains_same xs ys same old.given new.given h.given }
 
 left_start : {X : Type 0} (old all : List X) → Left old old all all
 left_start old all x = ((λ h. h), (λ h. h))

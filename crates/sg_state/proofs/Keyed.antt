@@ -8,9 +8,10 @@ use Rattle.std.specs.List.{Contains, AllByRecursion}
 use Rattle.std.specs.Map.{lookup, set_value}
 use Rattle.std.specs.Ordering.{is_eq, match_ordering}
 use Rattle.std.specs.declared.cmp.Ordering.{Ordering}
-use Rattle.std.specs.declared.cmp.Ordering.TheVariants.{Less, Equal}
-use Rattle.sg_base.specs.List.{IsRising}
-use Rattle.sg_base.proofs.Finite.{nothing_in, single, Contains-head, Contains-cons, Contains-tail, map-Contains, each_at}
+use Rattle.std.specs.declared.cmp.Ordering.TheVariants.{Equal}
+use Rattle.sg_base.specs.List.{IsDistinct, IsRising}
+use Rattle.sg_base.proofs.Finite.{nothing_in, single, Contains-head, Contains-cons, Contains-tail, map-Contains}
+use Rattle.sg_base.proofs.Rising.{Distinct-rising}
 use Rattle.sg_base.proofs.Rows.{equal_of, not_equal}
 
 -- some value at the key is of this kind
@@ -53,16 +54,16 @@ module _ {K V : Type 0} (cmp : K → K → Ordering) (total : IsTotalOrder cmp) 
       ]
 
   -- what is there is found
-  pub Contains-found : (es : List (K × V)) → IsRising cmp (map (λ p. p.0) es) → (k : K) (v : V) → Contains es (k, v) → lookup (is_at (cmp k)) es ≡ Some v
-  Contains-found [] up k v c = absurd (nothing_in (k, v) c)
-  Contains-found (p ∷ ps) up k v c =
+  pub distinct_found : (es : List (K × V)) → IsDistinct (map (λ p. p.0) es) → (k : K) (v : V) → Contains es (k, v) → lookup (is_at (cmp k)) es ≡ Some v
+  distinct_found [] once k v c = absurd (nothing_in (k, v) c)
+  distinct_found (p ∷ ps) once k v c =
       elim (Contains-cons p (k, v) ps c) [
         | inl e ↦ hit k p ps (ap (λ (q : K × V). q.0) (sym e)) ∙ ap Some (ap (λ (q : K × V). q.1) (sym e))
-        | inr m ↦
-            let less : cmp p.0 k ≡ Less = each_at (λ x. cmp p.0 x ≡ Less) (map (λ q. q.0) ps) up.0 k (map-Contains (λ (q : K × V). q.0) ps (k, v) m) in
-            let apart : p.0 ≡ k → ⊥ = λ s. (let itself : cmp p.0 k ≡ Equal = subst (λ (x : K). cmp p.0 x ≡ Equal) s (tied_itself total p.0) in cc) in
-            miss k p ps apart ∙ Contains-found ps up.1 k v m
+        | inr m ↦ miss k p ps (λ s. once.0 (subst (λ (x : K). Contains (map (λ (q : K × V). q.0) ps) x) (sym s) (map-Contains (λ (q : K × V). q.0) ps (k, v) m))) ∙ distinct_found ps once.1 k v m
       ]
+
+  pub Contains-found : (es : List (K × V)) → IsRising cmp (map (λ p. p.0) es) → (k : K) (v : V) → Contains es (k, v) → lookup (is_at (cmp k)) es ≡ Some v
+  Contains-found es up = distinct_found es (Distinct-rising cmp total (map (λ p. p.0) es) up)
 
   pub one_value : (es : List (K × V)) → IsRising cmp (map (λ p. p.0) es) → (k : K) (v w : V) → Contains es (k, v) → Contains es (k, w) → v ≡ w
   one_value es up k v w a b =
@@ -90,21 +91,22 @@ module _ {K V : Type 0} (cmp : K → K → Ordering) (total : IsTotalOrder cmp) 
   set_miss : (k : K) (p : K × V) (ps : List (K × V)) (w : V) → (p.0 ≡ k → ⊥) → set_value (is_at (cmp k)) (p ∷ ps) w ≡ p ∷ set_value (is_at (cmp k)) ps w
   set_miss k p ps w n = ap (λ (b : Bool). cond b ((p.0, w) ∷ ps) (p ∷ set_value (is_at (cmp k)) ps w)) (not_at cmp total equal k p.0 n)
 
-  pub set_from : (es : List (K × V)) → IsRising cmp (map (λ p. p.0) es) → (k : K) (w : V) (j : K) (x : V) → Contains (set_value (is_at (cmp k)) es w) (j, x) → ((j ≡ k → ⊥) × Contains es (j, x)) ⊎ ((j ≡ k) × (x ≡ w))
-  set_from [] up k w j x c = absurd (nothing_in (j, x) c)
-  set_from (p ∷ ps) up k w j x c =
+  pub distinct_set : (es : List (K × V)) → IsDistinct (map (λ p. p.0) es) → (k : K) (w : V) (j : K) (x : V) → Contains (set_value (is_at (cmp k)) es w) (j, x) → ((j ≡ k → ⊥) × Contains es (j, x)) ⊎ ((j ≡ k) × (x ≡ w))
+  distinct_set [] once k w j x c = absurd (nothing_in (j, x) c)
+  distinct_set (p ∷ ps) once k w j x c =
       elim (same_key cmp total equal k p.0) [
         | inl s ↦ elim (Contains-cons (p.0, w) (j, x) ps (subst (λ (l : List (K × V)). Contains l (j, x)) (set_hit k p ps w s) c)) [
           | inl e ↦ inr (ap (λ (q : K × V). q.0) e ∙ s, ap (λ (q : K × V). q.1) e)
-          | inr m ↦
-              let less : cmp p.0 j ≡ Less = each_at (λ y. cmp p.0 y ≡ Less) (map (λ q. q.0) ps) up.0 j (map-Contains (λ (q : K × V). q.0) ps (j, x) m) in
-              inl ((λ t. (let itself : cmp p.0 j ≡ Equal = subst (λ (y : K). cmp p.0 y ≡ Equal) (s ∙ sym t) (tied_itself total p.0) in cc)), Contains-tail p (j, x) ps m)
+          | inr m ↦ inl ((λ t. once.0 (subst (λ (y : K). Contains (map (λ (q : K × V). q.0) ps) y) (t ∙ sym s) (map-Contains (λ (q : K × V). q.0) ps (j, x) m))), Contains-tail p (j, x) ps m)
         ]
         | inr n ↦ elim (Contains-cons p (j, x) (set_value (is_at (cmp k)) ps w) (subst (λ (l : List (K × V)). Contains l (j, x)) (set_miss k p ps w n) c)) [
           | inl e ↦ inl ((λ t. n (sym (ap (λ (q : K × V). q.0) e) ∙ t)), subst (λ (q : K × V). Contains (p ∷ ps) q) (sym e) (Contains-head p ps))
-          | inr m ↦ elim (set_from ps up.1 k w j x m) [ inl h ↦ inl (h.0, Contains-tail p (j, x) ps h.1) | inr h ↦ inr h ]
+          | inr m ↦ elim (distinct_set ps once.1 k w j x m) [ inl h ↦ inl (h.0, Contains-tail p (j, x) ps h.1) | inr h ↦ inr h ]
         ]
       ]
+
+  pub set_from : (es : List (K × V)) → IsRising cmp (map (λ p. p.0) es) → (k : K) (w : V) (j : K) (x : V) → Contains (set_value (is_at (cmp k)) es w) (j, x) → ((j ≡ k → ⊥) × Contains es (j, x)) ⊎ ((j ≡ k) × (x ≡ w))
+  set_from es up = distinct_set es (Distinct-rising cmp total (map (λ p. p.0) es) up)
 
   pub set_other : (es : List (K × V)) (k : K) (w : V) (j : K) (x : V) → (j ≡ k → ⊥) → Contains es (j, x) → Contains (set_value (is_at (cmp k)) es w) (j, x)
   set_other [] k w j x n c = absurd (nothing_in (j, x) c)

@@ -1,4 +1,5 @@
 pub mod Keyed
+pub mod InOrder
 pub mod Removing
 pub mod PlaceRows
 pub mod RisingLists

@@ -1,9 +1,9 @@
 -- A held graph as the scopes with what they have.
-use Rattle.std.specs.Prelude.{◌≡◌, ℕ, List, [], ◌∷◌, map, Some, ◌<◌, ◌⊎◌, ◌↔◌, length, slice_index}
+use Rattle.std.specs.Prelude.{◌≡◌, ℕ, List, [], ◌∷◌, map, fold, Some, ◌<◌, ◌⊎◌, ◌↔◌, length, slice_index}
 use Rattle.std.specs.BTreeMap.{is_at}
 use Rattle.std.specs.List.{Contains, AllByRecursion, flat_map}
 use Rattle.std.specs.Map.{lookup, set_value}
-use Rattle.std.specs.Ordering.{nat_cmp}
+use Rattle.std.specs.Ordering.{nat_cmp, on}
 use Rattle.sg_base.specs.declared.scope.Scope.{Scope}
 use Rattle.sg_base.specs.Graph.{Edge}
 use Rattle.sg_base.specs.List.{IsRising}
@@ -11,8 +11,16 @@ use Rattle.sg_base.specs.Scope.{scope_cmp}
 use Rattle.sg_state.specs.declared.row.Row.{Row}
 use Rattle.sg_state.specs.declared.slot.Slot.{Slot}
 use Rattle.sg_state.specs.declared.slot.Slot.TheVariants.{Given, Waits, Empty}
-use Rattle.sg_state.specs.Held.{HeldOf, RowHold, DatumHold}
+use Rattle.sg_state.specs.Held.{HeldOf, RowHold, DatumHold, put}
 use Rattle.sg_state.specs.Place.{PlaceOf, HasTarget, HasHolder, HasRow, IsPlace}
+
+-- scopes with what they have
+pub record PlacesOf (D : Type 0) : Type 0 where
+  pub entries : List (Scope × PlaceOf D)
+
+-- entries in the rising order of their scopes
+abbrev pub in_order : {V : Type 0} → List (Scope × V) → List (Scope × V)
+in_order es = fold (put (on (λ p. p.0) scope_cmp)) [] es
 
 -- the edges from a scope
 abbrev pub edges_at : {D : Type 0} → Scope × PlaceOf D → List Edge

@@ -1,6 +1,6 @@
 //! A graph gets what the scopes of a held graph have.
 
-ghost use Rattle.std.specs.Prelude.{◌≡◌, ◌<◌, [], map, OnOk};
+ghost use Rattle.std.specs.Prelude.{◌≡◌, ◌<◌, [], map, ◌↔◌, IfOk, OnOk};
 ghost use Rattle.std.specs.List.{Contains, AllByRecursion, flat_map};
 ghost use Rattle.sg_base.specs.declared.scope.Scope.{Scope as ScopeOf};
 ghost use Rattle.sg_base.specs.Graph.{Edge, HasScope, HasNoDatum};
@@ -14,16 +14,36 @@ use crate::row::Row;
 use crate::slot::Slot;
 use sg_base::{Graph, Instance, Label, Scope};
 use std::alloc::{AllocError, Global};
-use std::collections::BTreeMap;
+use std::collections::HashMap;
 
-/// Adds the scopes.
-pub fn add_scopes<D>(
-    places: &BTreeMap<Scope, Place<D>>,
-    graph: &mut Graph<D>,
-) -> Result<(), AllocError>
-    ensures ok { OnOk result (GainsScopes graph.old graph.new (map (λ p. p.0) places.now.entries)) }
+/// The scopes, in the order of the map.
+fn keys<D>(alloc: Global, places: &HashMap<Scope, Place<D>>) -> Result<Vec<Scope>, AllocError>
+    ensures { IfOk result (λ v. v.items ≡ map (λ p. p.0) places.now.entries) }
 {
+    let mut scopes = Vec::new(alloc);
     for (s, _place) in places {
+        scopes.push(*s)?;
+    }
+    Ok(scopes)
+}
+
+/// The scopes in rising order, by one sort.
+pub fn rising_scopes<D>(
+    alloc: Global,
+    places: &HashMap<Scope, Place<D>>,
+) -> Result<Vec<Scope>, AllocError>
+    ensures { IfOk result (λ v. (s : ScopeOf) → (Contains v.items s) ↔ (Contains (map (λ p. p.0) places.now.entries) s)) }
+{
+    let mut scopes = keys(alloc, places)?;
+    scopes.sort_unstable();
+    Ok(scopes)
+}
+
+/// Adds scopes. Where they are in rising order and above those that are there, none is moved.
+pub fn add_scopes<D>(graph: &mut Graph<D>, scopes: &[Scope]) -> Result<(), AllocError>
+    ensures ok { OnOk result (GainsScopes graph.old graph.new scopes.now) }
+{
+    for s in scopes {
         graph.add_scope(*s)?;
     }
     Ok(())
@@ -60,7 +80,7 @@ fn add_rows<D>(graph: &mut Graph<D>, s: Scope, place: &Place<D>) -> Result<(), A
 
 /// Adds the edges.
 pub fn add_edges<D>(
-    places: &BTreeMap<Scope, Place<D>>,
+    places: &HashMap<Scope, Place<D>>,
     graph: &mut Graph<D>,
 ) -> Result<(), AllocError>
     requires places { AllByRecursion (λ p. IsPlace p.1) places.now.entries }
@@ -98,7 +118,7 @@ fn add_datum<I: Instance>(
 /// Adds copies of the data to a graph that has none.
 pub fn add_data<I: Instance>(
     alloc: Global,
-    places: &BTreeMap<Scope, Place<I::Datum>>,
+    places: &HashMap<Scope, Place<I::Datum>>,
     graph: &mut Graph<I::Datum>,
 ) -> Result<(), AllocError>
     requires distinct { IsDistinct (map (λ p. p.0) places.now.entries) }

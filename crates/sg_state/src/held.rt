@@ -16,19 +16,21 @@ use crate::datum_state::DatumState;
 use crate::need::Need;
 use crate::opening::Opening;
 use crate::place::Place;
+use crate::places::{Places, leave_all};
 use crate::slot::Slot;
-use crate::{copied, freed, lists, opened, places};
+use crate::{copied, freed, lists, opened};
 use sg_base::{Graph, Instance, Label, LabelSet, Scope, ScopeSet};
 use std::alloc::{AllocError, Global};
 use std::collections::BTreeMap;
 use std::marker::Model;
 
 /// A graph to which units still add: its scopes, edges and data, the holders of its rows and of its unset data, and how
-/// many scopes each unit has made. A row is closed where it has no holder. After want of memory nothing has changed.
+/// many scopes each unit has made. A row is closed where it has no holder. After want of memory nothing has changed. Scopes are
+/// found by hash, so that a look-up takes constant time on average.
 #[derive(Drop)]
 pub struct Held<I: Instance> {
     alloc: Global,
-    places: BTreeMap<Scope, Place<I::Datum>>,
+    places: Places<I::Datum>,
     made: Vec<u32>,
     lists: BTreeMap<u32, ScopeSet>,
 }
@@ -54,7 +56,7 @@ impl<I: Instance> Held<I> {
         let made = vec![in alloc; 0u32; units as usize]?;
         Ok(Held {
             alloc,
-            places: BTreeMap::new(alloc),
+            places: Places::new(alloc),
             made,
             lists: BTreeMap::new(alloc),
         })
@@ -98,7 +100,7 @@ impl<I: Instance> Held<I> {
         ensures err { OnErr result (self.new ≡ self.old) }
     {
         let label = l.number();
-        places::add_target(&mut self.places, from, label, to)?;
+        self.places.add_target(from, label, to)?;
         Ok(())
     }
 
@@ -108,7 +110,7 @@ impl<I: Instance> Held<I> {
         ensures set { self.new ≡ with_datum self.old unit s d }
         ensures sound { IsHeld self.new }
     {
-        places::set_slot(&mut self.places, s, Slot::Given(d));
+        self.places.set_slot(s, Slot::Given(d));
     }
 
     /// Gives up a row that the unit holds, by look-ups. The other holders stay.
@@ -118,7 +120,7 @@ impl<I: Instance> Held<I> {
         ensures sound { IsHeld self.new }
     {
         let label = l.number();
-        places::remove_holder(&mut self.places, s, label, unit);
+        self.places.remove_holder(s, label, unit);
     }
 
     /// Gives up all that the unit holds. Its unset data are absent from then on. Costs a look-up for each scope at
@@ -128,7 +130,7 @@ impl<I: Instance> Held<I> {
         ensures sound { IsHeld self.new }
     {
         let list = lists::listed(&self.lists, unit);
-        places::leave_all(&mut self.places, list, unit);
+        leave_all(&mut self.places, list, unit);
     }
 
     /// The targets of a row in rising order, by look-ups. Empty where the scope is not one of the graph.
@@ -139,7 +141,7 @@ impl<I: Instance> Held<I> {
         ensures sound { IsHeld self.now }
     {
         let label = l.number();
-        match places::find_row(&self.places, s, label) {
+        match self.places.row(s, label) {
             Some(row) => row.targets.as_slice(),
             None => &[],
         }
@@ -152,7 +154,7 @@ impl<I: Instance> Held<I> {
         ensures sound { IsHeld self.now }
     {
         let label = l.number();
-        match places::find_row(&self.places, s, label) {
+        match self.places.row(s, label) {
             Some(row) => row.holders.as_slice(),
             None => &[],
         }
@@ -173,7 +175,7 @@ impl<I: Instance> Held<I> {
         ensures sound { IsHeld self.now }
     {
         let label = l.number();
-        match places::find_row(&self.places, s, label) {
+        match self.places.row(s, label) {
             Some(row) => {
                 let holders = row.holders.as_slice();
                 if holders.is_empty() {
@@ -192,7 +194,7 @@ impl<I: Instance> Held<I> {
         ensures none { IfNone result (IsUnset (state_of self.now) s → ⊥) }
         ensures sound { IsHeld self.now }
     {
-        match places::find_slot(&self.places, s) {
+        match self.places.slot(s) {
             Some(Slot::Waits(unit)) => Some(*unit),
             Some(Slot::Given(_)) => None,
             Some(Slot::Empty) => None,
@@ -204,7 +206,7 @@ impl<I: Instance> Held<I> {
     pub fn datum(&self, s: Scope) -> DatumState<'_, I::Datum>
         ensures { IsDatumState self.now s result }
     {
-        match places::find_slot(&self.places, s) {
+        match self.places.slot(s) {
             Some(Slot::Given(datum)) => DatumState::Set(datum),
             Some(Slot::Waits(_)) => DatumState::Unset,
             Some(Slot::Empty) => DatumState::Absent,
@@ -216,17 +218,19 @@ impl<I: Instance> Held<I> {
     pub fn has_scope(&self, s: Scope) -> bool
         ensures { IsTrue result ↔ HasScope self.now.graph s }
     {
-        places::find_slot(&self.places, s).is_some()
+        self.places.slot(s).is_some()
     }
 
-    /// A copy of the graph, with a copy of each datum. Costs a look-up for each scope, edge and datum.
+    /// A copy of the graph, with a copy of each datum. Costs sorting the scopes, and a look-up for each edge and datum.
     pub fn graph(&self, alloc: Global) -> Result<Graph<I::Datum>, AllocError>
         ensures { IfOk result (λ g. g ≡ self.now.graph) }
     {
         let mut graph = Graph::new(alloc);
-        copied::add_scopes(&self.places, &mut graph)?;
-        copied::add_edges(&self.places, &mut graph)?;
-        copied::add_data::<I>(alloc, &self.places, &mut graph)?;
+        let places = self.places.all();
+        let scopes = copied::rising_scopes(alloc, places)?;
+        copied::add_scopes(&mut graph, &scopes)?;
+        copied::add_edges(places, &mut graph)?;
+        copied::add_data::<I>(alloc, places, &mut graph)?;
         Ok(graph)
     }
 

@@ -11,19 +11,20 @@ ghost use Rattle.sg_state.specs.Held.{RowHold, DatumHold};
 ghost use Rattle.sg_state.specs.Opening.{edge_of, row_hold_of, held_datum_of};
 ghost use Rattle.sg_state.specs.View.{ArePlaces, AreBare, Gives, HasKey, SlotAt, IsListed, KeepsLists};
 
+use crate::lists;
 use crate::place::Place;
+use crate::places::Places;
 use crate::slot::Slot;
-use crate::{lists, places};
 use sg_base::{Label, Scope, ScopeSet};
 use std::alloc::{AllocError, Global};
 use std::collections::BTreeMap;
 
 /// The scopes of a list without repetition, with nothing yet.
-pub fn bare<D: Drop>(alloc: Global, list: &[Scope]) -> Result<BTreeMap<Scope, Place<D>>, AllocError>
+pub fn bare<D: Drop>(alloc: Global, list: &[Scope]) -> Result<Places<D>, AllocError>
     requires distinct { IsDistinct list.now }
     ensures { IfOk result (λ m. AreBare m.entries list.now) }
 {
-    let mut places = BTreeMap::new(alloc);
+    let mut places = Places::new(alloc);
     for s in list {
         places.insert(*s, Place::new(alloc))?;
     }
@@ -33,7 +34,7 @@ pub fn bare<D: Drop>(alloc: Global, list: &[Scope]) -> Result<BTreeMap<Scope, Pl
 /// Adds edges. Each edge may be there already.
 pub fn add_edges<D>(
     alloc: Global,
-    places: &mut BTreeMap<Scope, Place<D>>,
+    places: &mut Places<D>,
     list: &[(Scope, Label, Scope)],
 ) -> Result<(), AllocError>
     requires places { ArePlaces places.old.entries }
@@ -41,7 +42,7 @@ pub fn add_edges<D>(
     ensures ok { OnOk result (Gives places.old.entries places.new.entries (map edge_of list.now) [] [] []) }
 {
     for (from, l, to) in list {
-        places::put_target(alloc, places, *from, l.number(), *to)?;
+        places.put_target(alloc, *from, l.number(), *to)?;
     }
     Ok(())
 }
@@ -49,7 +50,7 @@ pub fn add_edges<D>(
 /// Gives rows to their holders.
 pub fn add_row_holds<D>(
     alloc: Global,
-    places: &mut BTreeMap<Scope, Place<D>>,
+    places: &mut Places<D>,
     units: &mut BTreeMap<u32, ScopeSet>,
     list: &[(u32, Scope, Label)],
 ) -> Result<(), AllocError>
@@ -62,7 +63,7 @@ pub fn add_row_holds<D>(
     ensures rising { IsRising nat_cmp (map (λ p. p.0) units.new.entries) }
 {
     for (unit, s, l) in list {
-        places::put_holder(alloc, places, *s, l.number(), *unit)?;
+        places.put_holder(alloc, *s, l.number(), *unit)?;
         lists::note(alloc, units, *unit, *s)?;
     }
     Ok(())
@@ -71,7 +72,7 @@ pub fn add_row_holds<D>(
 /// Gives unset data to their holders, each at a scope without a datum.
 pub fn add_datum_holds<D: Drop>(
     alloc: Global,
-    places: &mut BTreeMap<Scope, Place<D>>,
+    places: &mut Places<D>,
     units: &mut BTreeMap<u32, ScopeSet>,
     list: &[(u32, Scope)],
 ) -> Result<(), AllocError>
@@ -85,20 +86,20 @@ pub fn add_datum_holds<D: Drop>(
     ensures rising { IsRising nat_cmp (map (λ p. p.0) units.new.entries) }
 {
     for (unit, s) in list {
-        places::set_slot(places, *s, Slot::Waits(*unit));
+        places.set_slot(*s, Slot::Waits(*unit));
         lists::note(alloc, units, *unit, *s)?;
     }
     Ok(())
 }
 
 /// Gives scopes their data, each at a scope without a datum.
-pub fn add_given<D: Drop>(places: &mut BTreeMap<Scope, Place<D>>, list: Vec<(Scope, D)>)
+pub fn add_given<D: Drop>(places: &mut Places<D>, list: Vec<(Scope, D)>)
     requires places { ArePlaces places.old.entries }
     requires empty { (q : ScopeOf × D) → Contains list.items q → SlotAt places.old.entries q.0 Empty }
     requires distinct { IsDistinct (map (λ p. p.0) list.items) }
     ensures { Gives places.old.entries places.new.entries [] [] list.items [] }
 {
     for (s, d) in list {
-        places::set_slot(places, s, Slot::Given(d));
+        places.set_slot(s, Slot::Given(d));
     }
 }

@@ -1,10 +1,13 @@
 //! The scopes of a held graph with what they have, and what changes at one of them.
 
-ghost use Rattle.std.specs.Prelude.{◌≡◌, ◌<◌, ◌⊎◌, None, IfSome, IfNone, OnOk, OnErr};
-ghost use Rattle.std.specs.BTreeMap.{is_at};
+ghost use Rattle.std.specs.Prelude.{◌≡◌, ◌<◌, ◌⊎◌, ◌↔◌, [], map, None, IfSome, IfNone, OnOk, OnErr};
+ghost use Rattle.std.specs.BTreeMap.{is_at, insert_entry};
+ghost use Rattle.std.specs.List.{Contains};
 ghost use Rattle.std.specs.Map.{lookup};
+ghost use Rattle.sg_base.specs.declared.scope.Scope.{Scope as ScopeOf};
+ghost use Rattle.sg_base.specs.List.{IsDistinct, IsRising};
 ghost use Rattle.sg_base.specs.Scope.{scope_cmp};
-ghost use Rattle.sg_state.specs.Place.{AddsTarget, AddsHolder, LosesHolder, LosesUnit};
+ghost use Rattle.sg_state.specs.Place.{PlaceOf, AddsTarget, AddsHolder, LosesHolder, LosesUnit};
 ghost use Rattle.sg_state.specs.View.{ArePlaces, ChangesPlace, HasKey, RowAt, RowIs, SlotAt, LeavesAll};
 
 use crate::place::Place;
@@ -12,131 +15,187 @@ use crate::row::Row;
 use crate::slot::Slot;
 use sg_base::Scope;
 use std::alloc::{AllocError, Global};
-use std::collections::BTreeMap;
+use std::collections::HashMap;
+use std::marker::Model;
 
-/// Adds a target to a row.
-pub fn add_target<D>(
-    places: &mut BTreeMap<Scope, Place<D>>,
-    s: Scope,
-    label: u8,
-    to: Scope,
-) -> Result<(), AllocError>
-    requires there { RowAt places.old.entries s label }
-    requires places { ArePlaces places.old.entries }
-    ensures ok { OnOk result (ChangesPlace (λ p q. AddsTarget p q label to) places.old.entries places.new.entries s) }
-    ensures err { OnErr result (places.new.entries ≡ places.old.entries) }
-{
-    match places.get_mut(&s) {
-        Some(place) => place.add_target(label, to)?,
-        None => {}
-    }
-    Ok(())
+/// The scopes with what they have, found by hash, which contracts see in the rising order of the scopes.
+#[derive(Drop)]
+pub struct Places<D> {
+    found: HashMap<Scope, Place<D>>,
 }
 
-/// Adds a target to a row, which is made if need be.
-pub fn put_target<D>(
-    alloc: Global,
-    places: &mut BTreeMap<Scope, Place<D>>,
-    s: Scope,
-    label: u8,
-    to: Scope,
-) -> Result<(), AllocError>
-    requires there { HasKey places.old.entries s }
-    requires labelled { label < 16 }
-    requires places { ArePlaces places.old.entries }
-    ensures ok { OnOk result (ChangesPlace (λ p q. AddsTarget p q label to) places.old.entries places.new.entries s) }
-{
-    match places.get_mut(&s) {
-        Some(place) => place.give_target(alloc, label, to)?,
-        None => {}
-    }
-    Ok(())
+impl<D> Model for Places<D> {
+    ghost use Rattle.std.specs.Prelude.{map};
+    ghost use Rattle.sg_base.specs.List.{IsDistinct};
+    ghost use Rattle.sg_state.specs.View.{PlacesOf, in_order};
+
+    ghost Value = { PlacesOf D };
+
+    ghost view = { λ p. record { entries = in_order p.found.entries } };
+
+    ghost invariant = { λ p. IsDistinct (map (λ e. e.0) p.found.entries) };
 }
 
-/// Makes a unit a holder of a row, which is made if need be.
-pub fn put_holder<D>(
-    alloc: Global,
-    places: &mut BTreeMap<Scope, Place<D>>,
-    s: Scope,
-    label: u8,
-    unit: u32,
-) -> Result<(), AllocError>
-    requires there { HasKey places.old.entries s }
-    requires labelled { label < 16 }
-    requires places { ArePlaces places.old.entries }
-    ensures ok { OnOk result (ChangesPlace (λ p q. AddsHolder p q label unit) places.old.entries places.new.entries s) }
-{
-    match places.get_mut(&s) {
-        Some(place) => place.give_row(alloc, label, unit)?,
-        None => {}
+impl<D> Places<D> {
+    /// No scope.
+    pub fn new(alloc: Global) -> Places<D>
+        ensures { result.entries ≡ [] }
+    {
+        Places {
+            found: HashMap::new(alloc),
+        }
     }
-    Ok(())
+
+    /// Adds a scope that is not there, with what it has, in constant time on average.
+    pub fn insert(&mut self, s: Scope, place: Place<D>) -> Result<(), AllocError>
+    where
+        D: Drop,
+        requires new { HasKey self.old.entries s → ⊥ }
+        ensures entries { OnOk result (self.new.entries ≡ insert_entry scope_cmp self.old.entries s place) }
+        ensures ordered { OnOk result (IsRising scope_cmp (map (λ p. p.0) self.new.entries)) }
+        ensures err { OnErr result (self.new.entries ≡ self.old.entries) }
+    {
+        self.found.insert(s, place)?;
+        Ok(())
+    }
+
+    /// The scopes with what they have, in any order.
+    pub fn all(&self) -> &HashMap<Scope, Place<D>>
+        ensures exact { (p : ScopeOf × PlaceOf D) → (Contains result.now.entries p) ↔ (Contains self.now.entries p) }
+        ensures once { IsDistinct (map (λ p. p.0) result.now.entries) }
+    {
+        &self.found
+    }
+
+    /// Adds a target to a row, by a look-up.
+    pub fn add_target(&mut self, s: Scope, label: u8, to: Scope) -> Result<(), AllocError>
+        requires there { RowAt self.old.entries s label }
+        requires places { ArePlaces self.old.entries }
+        ensures ok { OnOk result (ChangesPlace (λ p q. AddsTarget p q label to) self.old.entries self.new.entries s) }
+        ensures err { OnErr result (self.new.entries ≡ self.old.entries) }
+    {
+        match self.found.get_mut(&s) {
+            Some(place) => {
+                place.add_target(label, to)?;
+                Ok(())
+            }
+            None => Ok(()),
+        }
+    }
+
+    /// Adds a target to a row, which is made if need be, by a look-up.
+    pub fn put_target(
+        &mut self,
+        alloc: Global,
+        s: Scope,
+        label: u8,
+        to: Scope,
+    ) -> Result<(), AllocError>
+        requires there { HasKey self.old.entries s }
+        requires labelled { label < 16 }
+        requires places { ArePlaces self.old.entries }
+        ensures ok { OnOk result (ChangesPlace (λ p q. AddsTarget p q label to) self.old.entries self.new.entries s) }
+    {
+        match self.found.get_mut(&s) {
+            Some(place) => {
+                place.give_target(alloc, label, to)?;
+                Ok(())
+            }
+            None => Ok(()),
+        }
+    }
+
+    /// Makes a unit a holder of a row, which is made if need be, by a look-up.
+    pub fn put_holder(
+        &mut self,
+        alloc: Global,
+        s: Scope,
+        label: u8,
+        unit: u32,
+    ) -> Result<(), AllocError>
+        requires there { HasKey self.old.entries s }
+        requires labelled { label < 16 }
+        requires places { ArePlaces self.old.entries }
+        ensures ok { OnOk result (ChangesPlace (λ p q. AddsHolder p q label unit) self.old.entries self.new.entries s) }
+    {
+        match self.found.get_mut(&s) {
+            Some(place) => {
+                place.give_row(alloc, label, unit)?;
+                Ok(())
+            }
+            None => Ok(()),
+        }
+    }
+
+    /// Takes a holder from a row, if the unit holds it, by a look-up.
+    pub fn remove_holder(&mut self, s: Scope, label: u8, unit: u32)
+        requires there { HasKey self.old.entries s }
+        requires places { ArePlaces self.old.entries }
+        ensures { ChangesPlace (λ p q. LosesHolder p q label unit) self.old.entries self.new.entries s }
+    {
+        match self.found.get_mut(&s) {
+            Some(place) => place.remove_holder(label, unit),
+            None => {}
+        }
+    }
+
+    /// Puts a datum in the place of the one that was there, by a look-up.
+    pub fn set_slot(&mut self, s: Scope, slot: Slot<D>)
+    where
+        D: Drop,
+        requires there { HasKey self.old.entries s }
+        requires places { ArePlaces self.old.entries }
+        ensures { ChangesPlace (λ p q. q ≡ record { rows = p.rows; slot = slot }) self.old.entries self.new.entries s }
+    {
+        match self.found.get_mut(&s) {
+            Some(place) => place.set_slot(slot),
+            None => {}
+        }
+    }
+
+    /// Takes a unit from the holders of all that a scope has, if the scope is there, by a look-up.
+    pub fn leave(&mut self, s: Scope, unit: u32)
+    where
+        D: Drop,
+        requires places { ArePlaces self.old.entries }
+        ensures { ChangesPlace (λ p q. LosesUnit p q unit) self.old.entries self.new.entries s
+            ⊎ ((lookup (is_at (scope_cmp s)) self.old.entries ≡ None) × (self.new.entries ≡ self.old.entries)) }
+    {
+        match self.found.get_mut(&s) {
+            Some(place) => place.leave(unit),
+            None => {}
+        }
+    }
+
+    /// The row of a scope and a label, if it was made, by look-ups.
+    pub fn row(&self, s: Scope, label: u8) -> Option<&Row>
+        ensures found { IfSome result (λ r. RowIs self.now.entries s label r.now) }
+        ensures none { IfNone result (ArePlaces self.now.entries → RowAt self.now.entries s label → ⊥) }
+    {
+        match self.found.get(&s) {
+            Some(place) => place.row(label),
+            None => None,
+        }
+    }
+
+    /// The datum of a scope, if the scope is there, by a look-up.
+    pub fn slot(&self, s: Scope) -> Option<&Slot<D>>
+        ensures found { IfSome result (λ x. SlotAt self.now.entries s x.now) }
+        ensures none { IfNone result (HasKey self.now.entries s → ⊥) }
+    {
+        match self.found.get(&s) {
+            Some(place) => Some(place.slot()),
+            None => None,
+        }
+    }
 }
 
-/// Takes a holder from a row, if the unit holds it.
-pub fn remove_holder<D>(places: &mut BTreeMap<Scope, Place<D>>, s: Scope, label: u8, unit: u32)
-    requires there { HasKey places.old.entries s }
-    requires places { ArePlaces places.old.entries }
-    ensures { ChangesPlace (λ p q. LosesHolder p q label unit) places.old.entries places.new.entries s }
-{
-    match places.get_mut(&s) {
-        Some(place) => place.remove_holder(label, unit),
-        None => {}
-    }
-}
-
-/// Puts a datum in the place of the one that was there.
-pub fn set_slot<D: Drop>(places: &mut BTreeMap<Scope, Place<D>>, s: Scope, slot: Slot<D>)
-    requires there { HasKey places.old.entries s }
-    requires places { ArePlaces places.old.entries }
-    ensures { ChangesPlace (λ p q. q ≡ record { rows = p.rows; slot = slot }) places.old.entries places.new.entries s }
-{
-    match places.get_mut(&s) {
-        Some(place) => place.set_slot(slot),
-        None => {}
-    }
-}
-
-/// Takes a unit from the holders of all that a scope has, if the scope is there.
-pub fn leave<D: Drop>(places: &mut BTreeMap<Scope, Place<D>>, s: Scope, unit: u32)
-    requires places { ArePlaces places.old.entries }
-    ensures { ChangesPlace (λ p q. LosesUnit p q unit) places.old.entries places.new.entries s
-        ⊎ ((lookup (is_at (scope_cmp s)) places.old.entries ≡ None) × (places.new.entries ≡ places.old.entries)) }
-{
-    match places.get_mut(&s) {
-        Some(place) => place.leave(unit),
-        None => {}
-    }
-}
-
-/// Takes a unit from the holders of all that the scopes of a list have.
-pub fn leave_all<D: Drop>(places: &mut BTreeMap<Scope, Place<D>>, list: &[Scope], unit: u32)
+/// Takes a unit from the holders of all that the scopes of a list have, by a look-up for each.
+pub fn leave_all<D: Drop>(places: &mut Places<D>, list: &[Scope], unit: u32)
     requires places { ArePlaces places.old.entries }
     ensures { LeavesAll places.old.entries places.new.entries list.now unit }
 {
     for s in list {
-        leave(places, *s, unit);
-    }
-}
-
-/// The row of a scope and a label, if it was made, by look-ups.
-pub fn find_row<D>(places: &BTreeMap<Scope, Place<D>>, s: Scope, label: u8) -> Option<&Row>
-    ensures found { IfSome result (λ r. RowIs places.now.entries s label r.now) }
-    ensures none { IfNone result (ArePlaces places.now.entries → RowAt places.now.entries s label → ⊥) }
-{
-    match places.get(&s) {
-        Some(place) => place.row(label),
-        None => None,
-    }
-}
-
-/// The datum of a scope, if the scope is there, by a look-up.
-pub fn find_slot<D>(places: &BTreeMap<Scope, Place<D>>, s: Scope) -> Option<&Slot<D>>
-    ensures found { IfSome result (λ x. SlotAt places.now.entries s x.now) }
-    ensures none { IfNone result (HasKey places.now.entries s → ⊥) }
-{
-    match places.get(&s) {
-        Some(place) => Some(place.slot()),
-        None => None,
+        places.leave(*s, unit);
     }
 }

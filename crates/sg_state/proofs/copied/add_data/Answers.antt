@@ -16,6 +16,11 @@ add_datum-requires-clause-none g c =
     let left = rw c.in-Some.ensures.steps at c.loop-s.invariant in
     left.none c.in-Some.s.now (Contains-head c.in-Some.s.now (map (λ p. p.0) c.next.new.self))
 
+pub add_datum-requires-clause-there : goal.add_datum-requires-clause-there
+add_datum-requires-clause-there g c =
+    let left = rw c.in-Some.ensures.steps at c.loop-s.invariant in
+    left.there c.in-Some.s.now (Contains-head c.in-Some.s.now (map (λ p. p.0) c.next.new.self))
+
 pub loop-s-preserved : goal.loop-s-preserved
 loop-s-preserved g c =
     let left = rw c.in-Some.ensures.steps at c.loop-s.invariant in

@@ -21,7 +21,7 @@ loop-unit-preserved g c =
     let done = map held_datum_of (take i list) in
     let more = map held_datum_of (take (i + 1) list) in
     let next = one_more_map held_datum_of list i (0, record { unit = 0; serial = 0 }) c.loop-unit-test.true in (
-      gives_datum c.args.places.now.entries c.loop-unit.places.entries c.set_slot.new.places.entries [] [] [] done x.1 c.loop-unit.invariant.0 x.0 more next c.set_slot.ensures ready,
+      gives_datum c.args.places.now.entries c.loop-unit.places.entries c.set_slot.new.self.entries [] [] [] done x.1 c.loop-unit.invariant.0 x.0 more next c.set_slot.ensures ready,
       noted_more (λ (k : DatumHold). k.unit) (λ (k : DatumHold). k.scope) done more (held_datum_of x) next c.loop-unit.units.entries c.note.new.lists.entries c.in_ok-note.ensures.kept c.in_ok-note.ensures.ok c.loop-unit.invariant.1,
       (λ u s h. c.in_ok-note.ensures.kept u s (c.loop-unit.invariant.2 u s h)),
       c.in_ok-note.ensures.rising,

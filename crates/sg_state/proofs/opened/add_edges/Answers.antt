@@ -16,5 +16,5 @@ loop-from-preserved g c =
     let list = c.args.list.now in
     let done = map edge_of (take c.loop-from.from-index list) in
     let more = map edge_of (take (c.loop-from.from-index + 1) list) in
-    gives_edge c.args.places.now.entries c.loop-from.places.entries c.put_target.new.places.entries done [] [] [] x.0 c.loop-from.invariant x.1 x.2 more
+    gives_edge c.args.places.now.entries c.loop-from.places.entries c.put_target.new.self.entries done [] [] [] x.0 c.loop-from.invariant x.1 x.2 more
     (next_more list c.loop-from.from-index x c.loop-from-item.is c.loop-from-test.true edge_of) (rw c.number.ensures.value at c.in_ok-put_target.ensures.ok)

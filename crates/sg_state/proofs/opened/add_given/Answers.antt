@@ -22,7 +22,7 @@ loop-s-preserved g c =
     let all = rw steps at at.invariant.0 in
     let ready = given_ready c.args.places.now.entries at.places.entries c.args.list.items at.yielded (c.in-Some.s, c.in-Some.d) (into_iter_items c.next.new.self) (all ∙ c.into_iter-s-iterator.ensures.into_iter_gives.0) at.invariant.1 c.requires.empty c.requires.distinct in (
       append_assoc at.yielded ((c.in-Some.s, c.in-Some.d) ∷ []) _ ∙ all,
-      gives_given c.args.places.now.entries at.places.entries c.set_slot.new.places.entries [] [] at.yielded [] c.in-Some.s at.invariant.1 c.in-Some.d (at.yielded ++ (c.in-Some.s, c.in-Some.d) ∷ []) (pushed at.yielded (c.in-Some.s, c.in-Some.d)) c.set_slot.ensures ready,
+      gives_given c.args.places.now.entries at.places.entries c.set_slot.new.self.entries [] [] at.yielded [] c.in-Some.s at.invariant.1 c.in-Some.d (at.yielded ++ (c.in-Some.s, c.in-Some.d) ∷ []) (pushed at.yielded (c.in-Some.s, c.in-Some.d)) c.set_slot.ensures ready,
       let was = at.invariant.2 in
           let gone = c.in-Some.ensures.steps.1 in
           let short = ap length steps in

@@ -18,7 +18,7 @@ loop-unit-preserved g c =
     let done = map row_hold_of (take c.loop-unit.unit-index list) in
     let more = map row_hold_of (take (c.loop-unit.unit-index + 1) list) in
     let next = next_more list c.loop-unit.unit-index x c.loop-unit-item.is c.loop-unit-test.true row_hold_of in (
-      gives_row c.args.places.now.entries c.loop-unit.places.entries c.put_holder.new.places.entries [] done [] [] x.1 c.loop-unit.invariant.0 x.2 x.0 more next (rw c.number.ensures.value at c.in_ok-put_holder.ensures.ok),
+      gives_row c.args.places.now.entries c.loop-unit.places.entries c.put_holder.new.self.entries [] done [] [] x.1 c.loop-unit.invariant.0 x.2 x.0 more next (rw c.number.ensures.value at c.in_ok-put_holder.ensures.ok),
       noted_more (λ (k : RowHold). k.unit) (λ (k : RowHold). k.scope) done more (row_hold_of x) next c.loop-unit.units.entries c.note.new.lists.entries c.in_ok-note.ensures.kept c.in_ok-note.ensures.ok c.loop-unit.invariant.1,
       (λ u s h. c.in_ok-note.ensures.kept u s (c.loop-unit.invariant.2 u s h)),
       c.in_ok-note.ensures.rising,

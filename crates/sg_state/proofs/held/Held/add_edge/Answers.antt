@@ -13,14 +13,14 @@ pub invariant_of-self-2 : goal.invariant_of-self-2
 invariant_of-self-2 g c =
     let target = rw (← c.self.view_is) at c.requires.target in
     let es = c.self.inside.places.entries in
-    edge_kept es c.add_target.new.places.entries c.self.inside.made.items c.args.from (c.self.invariant).places c.self.inside.lists.entries c.self.invariant c.number-label.result c.args.to (key_from es c.args.to target) c.in_ok-add_target.ensures.ok
+    edge_kept es c.add_target.new.self.entries c.self.inside.made.items c.args.from (c.self.invariant).places c.self.inside.lists.entries c.self.invariant c.number-label.result c.args.to (key_from es c.args.to target) c.in_ok-add_target.ensures.ok
 
 pub returns-clause-ok : goal.returns-clause-ok
 returns-clause-ok g c =
-    rw (← c.self.view_is, ← c.number-label.ensures.value) (edge_written c.self.inside.places.entries c.add_target.new.places.entries c.self.inside.made.items c.args.from (c.self.invariant).places c.number-label.result c.args.to c.in_ok-add_target.ensures.ok)
+    rw (← c.self.view_is, ← c.number-label.ensures.value) (edge_written c.self.inside.places.entries c.add_target.new.self.entries c.self.inside.made.items c.args.from (c.self.invariant).places c.number-label.result c.args.to c.in_ok-add_target.ensures.ok)
 
 pub returns-clause-sound : goal.returns-clause-sound
-returns-clause-sound g c = held_from c.add_target.new.places.entries c.self.inside.made.items c.self.inside.lists.entries (invariant_of-self-2 g c)
+returns-clause-sound g c = held_from c.add_target.new.self.entries c.self.inside.made.items c.self.inside.lists.entries (invariant_of-self-2 g c)
 
 pub returns-in_err-add_target-clause-sound : goal.returns-in_err-add_target-clause-sound
 returns-in_err-add_target-clause-sound g c =

@@ -11,11 +11,11 @@ remove_holder-requires-clause-there g c =
 
 pub invariant_of-self : goal.invariant_of-self
 invariant_of-self g c =
-    close_kept c.self.inside.places.entries c.remove_holder.new.places.entries c.self.inside.made.items c.args.s (c.self.invariant).places c.self.inside.lists.entries c.self.invariant c.number-label.result c.args.unit c.remove_holder.ensures
+    close_kept c.self.inside.places.entries c.remove_holder.new.self.entries c.self.inside.made.items c.args.s (c.self.invariant).places c.self.inside.lists.entries c.self.invariant c.number-label.result c.args.unit c.remove_holder.ensures
 
 pub returns-clause-closed : goal.returns-clause-closed
 returns-clause-closed g c =
-    rw (← c.self.view_is, ← c.number-label.ensures.value) (row_closed c.self.inside.places.entries c.remove_holder.new.places.entries c.self.inside.made.items c.args.s (c.self.invariant).places c.number-label.result c.args.unit c.remove_holder.ensures)
+    rw (← c.self.view_is, ← c.number-label.ensures.value) (row_closed c.self.inside.places.entries c.remove_holder.new.self.entries c.self.inside.made.items c.args.s (c.self.invariant).places c.number-label.result c.args.unit c.remove_holder.ensures)
 
 pub returns-clause-sound : goal.returns-clause-sound
-returns-clause-sound g c = held_from c.remove_holder.new.places.entries c.self.inside.made.items c.self.inside.lists.entries (invariant_of-self g c)
+returns-clause-sound g c = held_from c.remove_holder.new.self.entries c.self.inside.made.items c.self.inside.lists.entries (invariant_of-self g c)

@@ -1,13 +1,11 @@
-use Rattle.std.proofs.Common.{◌≡◌, ℕ, [], ◌↔◌, true, refl, ◌∙◌}
+use Rattle.std.proofs.Common.{ℕ, [], ◌↔◌, true, refl}
 use Rattle.std.specs.List.{Contains}
-use Rattle.sg_base.specs.Graph.{row_of}
-use Rattle.sg_base.specs.State.{IsOpen}
 use Rattle.sg_base.proofs.Finite.{nothing_in}
-use Rattle.sg_state.specs.Held.{HoldsRow, state_of}
+use Rattle.sg_state.specs.Held.{HoldsRow}
 use Rattle.sg_state.specs.View.{seen}
 use Rattle.sg_state.proofs.Finding.{row_is, targets_exact, holders_exact, closed_is, open_is}
 use Rattle.sg_state.proofs.Keeping.{held_from}
-use Rattle.sg_state.proofs.Views.{edge_from, edge_to, hold_from, hold_to}
+use Rattle.sg_state.proofs.Views.{hold_from, hold_to}
 use Rattle.sg_state.proofs.held.Held.closed_row.Goals as goal
 
 pub returns-then-is_empty-clause-closed : goal.returns-then-is_empty-clause-closed

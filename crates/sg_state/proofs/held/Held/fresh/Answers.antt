@@ -1,8 +1,5 @@
-use Rattle.std.proofs.Common.{map}
 use Rattle.std.proofs.lemmas.List.{get_or_read}
-use Rattle.sg_base.specs.Scope.{scope_cmp}
-use Rattle.sg_base.proofs.Rising.{rising_from_sorted}
-use Rattle.sg_state.proofs.Freshening.{relisted, scope_made, grown_kept}
+use Rattle.sg_state.proofs.Freshening.{absent, relisted, scope_made, grown_kept}
 use Rattle.sg_state.proofs.Keeping.{held_from}
 use Rattle.sg_state.proofs.held.Held.fresh.Goals as goal
 
@@ -21,12 +18,19 @@ invariant_of-self-in_err-insert g c = rw c.in_err-insert.ensures.err (relisted c
 pub returns-in_err-insert-clause-sound : goal.returns-in_err-insert-clause-sound
 returns-in_err-insert-clause-sound g c = held_from c.insert.new.self.entries c.self.inside.made.items c.note.new.lists.entries (invariant_of-self-in_err-insert g c)
 
+pub insert-requires : goal.insert-requires
+insert-requires g c =
+    let made = c.self.inside.made.items in
+    let lt = rw (← c.self.view_is) at c.requires.unit in
+    let next = get_or_read made c.args.unit c.index-serial.result.now lt c.index-serial.ensures 0 in
+    record { new = λ h. absent c.self.inside.places.entries made c.self.inside.lists.entries c.self.invariant c.args.unit c.args.labels c.args.datum c.index-serial.result.now next lt c.in_ok-place.place c.in_ok-place.ensures h.0 h.1 }
+
 pub invariant_of-self-2 : goal.invariant_of-self-2
 invariant_of-self-2 g c =
     let made = c.self.inside.made.items in
     let lt = rw (← c.self.view_is) at c.requires.unit in
     let next = get_or_read made c.args.unit c.index-serial.result.now lt c.index-serial.ensures 0 in
-    let up = rw c.in_ok-insert.ensures.entries at (rising_from_sorted scope_cmp (map (λ p. p.0) c.insert.new.self.entries) c.in_ok-insert.ensures.ordered) in
+    let up = rw c.in_ok-insert.ensures.entries at c.in_ok-insert.ensures.ordered in
     rw c.in_ok-insert.ensures.entries (grown_kept c.self.inside.places.entries made c.self.inside.lists.entries c.self.invariant c.args.unit c.args.labels c.args.datum c.index-serial.result.now next lt c.in_ok-place.place c.in_ok-place.ensures up c.note.new.lists.entries c.in_ok-note.ensures.kept c.in_ok-note.ensures.rising c.in_ok-note.ensures.ok)
 
 pub returns-clause-ok : goal.returns-clause-ok
@@ -34,7 +38,7 @@ returns-clause-ok g c =
     let made = c.self.inside.made.items in
     let lt = rw (← c.self.view_is) at c.requires.unit in
     let next = get_or_read made c.args.unit c.index-serial.result.now lt c.index-serial.ensures 0 in
-    let up = rw c.in_ok-insert.ensures.entries at (rising_from_sorted scope_cmp (map (λ p. p.0) c.insert.new.self.entries) c.in_ok-insert.ensures.ordered) in
+    let up = rw c.in_ok-insert.ensures.entries at c.in_ok-insert.ensures.ordered in
     rw (c.in_ok-insert.ensures.entries, ← c.self.view_is) (scope_made c.self.inside.places.entries made c.self.inside.lists.entries c.self.invariant c.args.unit c.args.labels c.args.datum c.index-serial.result.now next lt c.in_ok-place.place c.in_ok-place.ensures up)
 
 pub returns-clause-sound : goal.returns-clause-sound

@@ -2,4 +2,4 @@ use Rattle.sg_state.proofs.Finding.{scope_is}
 use Rattle.sg_state.proofs.held.Held.has_scope.Goals as goal
 
 pub returns : goal.returns
-returns g c = rw (← c.self.view_is, c.is_some.ensures) (scope_is c.self.inside.places.entries c.self.inside.made.items c.args.s c.find_slot.result c.find_slot.ensures.found c.find_slot.ensures.none)
+returns g c = rw (← c.self.view_is, c.is_some.ensures) (scope_is c.self.inside.places.entries c.self.inside.made.items c.args.s c.slot.result c.slot.ensures.found c.slot.ensures.none)

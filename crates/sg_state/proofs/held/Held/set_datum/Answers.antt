@@ -11,12 +11,12 @@ set_slot-requires-clause-there g c =
 
 pub invariant_of-self : goal.invariant_of-self
 invariant_of-self g c =
-    datum_kept c.self.inside.places.entries c.set_slot.new.places.entries c.self.inside.made.items c.args.s (c.self.invariant).places c.self.inside.lists.entries c.self.invariant c.args.d c.set_slot.ensures
+    datum_kept c.self.inside.places.entries c.set_slot.new.self.entries c.self.inside.made.items c.args.s (c.self.invariant).places c.self.inside.lists.entries c.self.invariant c.args.d c.set_slot.ensures
 
 pub returns-clause-set : goal.returns-clause-set
 returns-clause-set g c =
     let holds = rw (← c.self.view_is) at c.requires.holds in
-    rw (← c.self.view_is) (datum_written c.self.inside.places.entries c.set_slot.new.places.entries c.self.inside.made.items c.args.s (c.self.invariant).places c.args.unit c.args.d (waits_from c.self.inside.places.entries c.args.s c.args.unit holds) c.set_slot.ensures)
+    rw (← c.self.view_is) (datum_written c.self.inside.places.entries c.set_slot.new.self.entries c.self.inside.made.items c.args.s (c.self.invariant).places c.args.unit c.args.d (waits_from c.self.inside.places.entries c.args.s c.args.unit holds) c.set_slot.ensures)
 
 pub returns-clause-sound : goal.returns-clause-sound
-returns-clause-sound g c = held_from c.set_slot.new.places.entries c.self.inside.made.items c.self.inside.lists.entries (invariant_of-self g c)
+returns-clause-sound g c = held_from c.set_slot.new.self.entries c.self.inside.made.items c.self.inside.lists.entries (invariant_of-self g c)
