@@ -1,4 +1,4 @@
-ghost use Rattle.std.specs.Prelude.{◌≡◌, ◌<◌, ◌^◌, [], ◌∷◌, ◌++◌, length, take, slice_index_or, IfSome, IfOk, OnOk, OnErr};
+ghost use Rattle.std.specs.Prelude.{◌≡◌, ◌<◌, ◌≤◌, ◌^◌, [], ◌∷◌, ◌++◌, length, take, slice_index_or, IfSome, IfOk, OnOk, OnErr};
 ghost use Rattle.sg_engine.specs.Nodes.{NodeOf, RestOf, rest_at, IsRestAfter};
 
 use crate::rest::Rest;
@@ -17,7 +17,8 @@ pub struct Node {
 }
 
 /// Paths that share their fronts, each with the words that may follow its word. Words that follow the same words over the
-/// same label are kept once. The first node stands for the path with no step, and its step ends at the start.
+/// same label are kept once where they were derived lately. The first node stands for the path with no step, and its step
+/// ends at the start.
 #[derive(Drop)]
 pub struct Nodes {
     rests: Vec<Rest>,
@@ -40,13 +41,24 @@ impl Model for Nodes {
     ghost invariant = { λ n. AreRests n.rests.items × AllByRecursion (λ m. m.rest < length n.rests.items) n.nodes.items };
 }
 
-/// The place of the words that came from a rest over a label, if they are among these. Looks at each in turn, the latest
-/// first.
+/// How many rests are looked at for the words that follow a label.
+const LATEST: usize = 32;
+
+/// The place of the first rest that is looked at, where there are so many.
+fn first_of(count: usize) -> usize
+    ensures { 1 ≤ result }
+{
+    if count > LATEST { count - LATEST } else { 1 }
+}
+
+/// The place of the words that came from a rest over a label, if they are among the latest of these. Looks at the latest
+/// 32 in turn, the last first.
 fn find(rests: &[Rest], from: usize, l: Label) -> Option<usize>
     ensures { IfSome result (λ i. (0 < i) × (i < length rests.now) × ((r : RestOf) → r ≡ slice_index_or rests.now i r → (r.from ≡ from) × (r.label ≡ l))) }
 {
+    let low = first_of(rests.len());
     let mut i = rests.len();
-    while 1 < i {
+    while low < i {
         i -= 1;
         if rests[i].comes_from(from, l) {
             return Some(i);
@@ -95,8 +107,8 @@ impl Nodes {
         &self.rests[place]
     }
 
-    /// The place of the words that follow a path over a label. Takes them off the path's words the first time, and
-    /// looks them up after that.
+    /// The place of the words that follow a path over a label. Takes them off the path's words, but for those that are
+    /// among the latest that were taken off.
     pub fn derive(&mut self, alloc: Global, place: usize, l: Label) -> Result<usize, AllocError>
         requires { place < length self.old.items }
         ensures items { self.new.items ≡ self.old.items }
