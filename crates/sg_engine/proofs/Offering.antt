@@ -1,5 +1,5 @@
 -- What a node offers, label by label.
-use Rattle.std.proofs.Common.{◌≡◌, ℕ, zero, suc, ◌<◌, ◌≤◌, ◌+◌, arith, List, [], ◌∷◌, ◌++◌, ◌⊎◌, ◌↔◌, map, length, length-append, inl, inr, refl, sym, ap, ◌∙◌, subst, append_assoc}
+use Rattle.std.proofs.Common.{◌≡◌, ◌≢◌, ℕ, zero, suc, ◌<◌, ◌≤◌, ◌+◌, arith, List, [], ◌∷◌, ◌++◌, ◌⊎◌, ◌↔◌, map, length, length-append, inl, inr, refl, sym, ap, ◌∙◌, subst, append_assoc}
 use Rattle.std.proofs.lemmas.List.{append-nil}
 use Rattle.std.specs.List.{Contains}
 use Rattle.std.proofs.lemmas.List.Elements.{Contains-append_left, Contains-append_cases, Contains-push}
@@ -48,6 +48,27 @@ pub offered_out : (heads place n : ℕ) (old now : List Work) → OfferedTo head
 offered_out heads place n old now o h =
     let up : suc n ≡ n + 1 = omega arith in
     subst (λ (k : ℕ). OfferedTo heads place k old now) up (o.0, Keeps-push_out (Has heads) (labels_below n) o.0 n o.1 h, o.2)
+
+-- where there is no label, none is offered
+pub offered_nowhere : (heads place n : ℕ) (old : List Work) → ((l : ℕ) → Has heads l → ⊥) → OfferedTo heads place n old old
+offered_nowhere heads place zero old h = offered_none heads place old
+offered_nowhere heads place (suc n) old h =
+    let o = offered_nowhere heads place n old h in
+    (o.0, Keeps-push_out (Has heads) (labels_below n) o.0 n o.1 (h n), o.2)
+
+-- the labels below 16 that the heads have were offered, and they have no others
+abbrev pub OfferedAll : ℕ → ℕ → List Work → List Work → Type 0
+OfferedAll heads place old now = OfferedTo heads place 16 old now × ((l : ℕ) → Has heads l → l < 16)
+
+-- words that do not go on begin with no label
+pub headless : (heads : ℕ) (rest : Expr) → ((l : ℕ) → (Has heads l) ↔ ((w : Word) × In rest (l ∷ w))) → ((w : Word) × (w ≢ []) × In rest w → ⊥) → (l : ℕ) → Has heads l → ⊥
+headless heads rest means none l h = let k = (means l).0 h in none (l ∷ k.0, (λ e. cc e), k.1)
+
+pub offered_now : (heads place : ℕ) (old now same : List Work) → now ≡ same → OfferedAll heads place old same → OfferedAll heads place old now
+offered_now heads place old now same e o = subst (OfferedAll heads place old) (sym e) o
+
+pub offered_headless : (heads place : ℕ) (old : List Work) → ((l : ℕ) → Has heads l → ⊥) → OfferedAll heads place old old
+offered_headless heads place old h = (offered_nowhere heads place 16 old h, λ l k. absurd (h l k))
 
 module _ (heads place : ℕ) (rest : Expr) (small : (l : ℕ) → Has heads l → l < 16) (means : (l : ℕ) → (Has heads l) ↔ ((w : Word) × In rest (l ∷ w))) (old now : List Work) (o : OfferedTo heads place 16 old now) where
   abbrev pub nexts : List Work

@@ -32,16 +32,18 @@ pub struct Tree<D> {
     pub going: usize,
 }
 
-/// Adds what the path of a node offers.
+/// Adds what the path of a node offers. Looks at the labels only where the words go on.
 fn push_offers(rest: &Rest, place: usize, queue: &mut Vec<Work>) -> Result<(), AllocError>
     ensures offers { OnOk result ((ws : List WorkOf) × (queue.new.items ≡ queue.old.items ++ ws) × IsDistinct ws × (length ws ≤ 17) × ((x : WorkOf) → (Contains ws x) ↔ (IsWorkOf rest.now.expr place x))) }
     ensures lists { IsFrontOf queue.old.items queue.new.items }
 {
     let heads = rest.heads();
-    for n in 0..16 {
-        let l = Label::new(n);
-        if heads.has(l) {
-            queue.push(Work::Next(place, l))?;
+    if rest.goes_on() {
+        for n in 0..16 {
+            let l = Label::new(n);
+            if heads.has(l) {
+                queue.push(Work::Next(place, l))?;
+            }
         }
     }
     if rest.nullable() {

@@ -1,9 +1,10 @@
-use Rattle.std.proofs.Common.{◌≡◌, sym, subst, ℕ, arith}
+use Rattle.std.proofs.Common.{◌≡◌, ◌∙◌, sym, subst, ℕ, arith}
 use Rattle.sg_base.specs.Label.{Has}
-use Rattle.sg_engine.proofs.Listing.{front_push}
-use Rattle.sg_engine.proofs.Offering.{OfferedTo, offered_none, offered_in, offered_out, offers_next, offers_whole}
+use Rattle.sg_engine.specs.Tree.{IsFrontOf}
+use Rattle.sg_engine.proofs.Listing.{front_push, front_is}
+use Rattle.sg_engine.proofs.Offering.{OfferedTo, OfferedAll, offered_none, offered_in, offered_out, offered_headless, offered_now, headless, offers_next, offers_whole}
 use Rattle.sg_engine.proofs.tree.push_offers.Goals as goal
-use Rattle.sg_engine.proofs.tree.push_offers.Goals.{then-has+in_ok-push, else-has}
+use Rattle.sg_engine.proofs.tree.push_offers.Goals.{then-has+in_ok-push, else-has, then-goes_on+else-loop-n-test, else-goes_on}
 
 pub loop-n-init : goal.loop-n-init
 loop-n-init c = (offered_none c.heads-heads.result c.args.place c.args.queue.now.items, λ z. absurd (omega (arith, z)))
@@ -22,16 +23,67 @@ loop-n-preserved c = (
 
 pub returns-in_ok-push-2-clause-offers : goal.returns-in_ok-push-2-clause-offers
 returns-in_ok-push-2-clause-offers c =
-    let last : c.loop-n.n ≡ 16 = omega (arith, c.loop-n-test.false, c.loop-n.auto.n-end) in
-    rw c.in_ok-push-2.ensures.items (offers_whole c.heads-heads.result c.args.place c.args.rest.now.expr (c.loop-n.invariant.1 (omega (arith, last))) c.heads-heads.ensures c.args.queue.now.items c.loop-n.queue.items (subst (λ (n : ℕ). OfferedTo c.heads-heads.result c.args.place n c.args.queue.now.items c.loop-n.queue.items) last c.loop-n.invariant.0) (c.nullable.ensures.0 c.if-nullable.true))
+    let heads = c.heads-heads.result in
+    let old = c.args.queue.now.items in
+    let all : OfferedAll heads c.args.place old c.if-goes_on.queue.items = elim c.if-goes_on.branch [
+      | then-goes_on+else-loop-n-test w ↦
+          let last : w.loop-n.n ≡ 16 = omega (arith, w.loop-n-test.false, w.loop-n.auto.n-end) in
+          let same : c.if-goes_on.queue.items ≡ w.loop-n.queue.items = cc w.queue-is in
+          offered_now heads c.args.place old c.if-goes_on.queue.items w.loop-n.queue.items same (subst (λ (n : ℕ). OfferedTo heads c.args.place n old w.loop-n.queue.items) last w.loop-n.invariant.0, w.loop-n.invariant.1 (omega (arith, last)))
+      | else-goes_on w ↦
+          let same : c.if-goes_on.queue.items ≡ old = cc w.queue-is in
+          offered_now heads c.args.place old c.if-goes_on.queue.items old same (offered_headless heads c.args.place old (headless heads c.args.rest.now.expr c.heads-heads.ensures (λ k. cc (c.goes_on.ensures.1 k, w.if-goes_on.false))))
+    ] in
+    rw c.in_ok-push-2.ensures.items (offers_whole heads c.args.place c.args.rest.now.expr all.1 c.heads-heads.ensures old c.if-goes_on.queue.items all.0 (c.nullable.ensures.0 c.if-nullable.true))
 
 pub returns-else-nullable-clause-offers : goal.returns-else-nullable-clause-offers
 returns-else-nullable-clause-offers c =
-    let last : c.loop-n.n ≡ 16 = omega (arith, c.loop-n-test.false, c.loop-n.auto.n-end) in
-    offers_next c.heads-heads.result c.args.place c.args.rest.now.expr (c.loop-n.invariant.1 (omega (arith, last))) c.heads-heads.ensures c.args.queue.now.items c.loop-n.queue.items (subst (λ (n : ℕ). OfferedTo c.heads-heads.result c.args.place n c.args.queue.now.items c.loop-n.queue.items) last c.loop-n.invariant.0) (λ i. cc (c.nullable.ensures.1 i, c.if-nullable.false))
+    let heads = c.heads-heads.result in
+    let old = c.args.queue.now.items in
+    let all : OfferedAll heads c.args.place old c.if-goes_on.queue.items = elim c.if-goes_on.branch [
+      | then-goes_on+else-loop-n-test w ↦
+          let last : w.loop-n.n ≡ 16 = omega (arith, w.loop-n-test.false, w.loop-n.auto.n-end) in
+          let same : c.if-goes_on.queue.items ≡ w.loop-n.queue.items = cc w.queue-is in
+          offered_now heads c.args.place old c.if-goes_on.queue.items w.loop-n.queue.items same (subst (λ (n : ℕ). OfferedTo heads c.args.place n old w.loop-n.queue.items) last w.loop-n.invariant.0, w.loop-n.invariant.1 (omega (arith, last)))
+      | else-goes_on w ↦
+          let same : c.if-goes_on.queue.items ≡ old = cc w.queue-is in
+          offered_now heads c.args.place old c.if-goes_on.queue.items old same (offered_headless heads c.args.place old (headless heads c.args.rest.now.expr c.heads-heads.ensures (λ k. cc (c.goes_on.ensures.1 k, w.if-goes_on.false))))
+    ] in
+    offers_next heads c.args.place c.args.rest.now.expr all.1 c.heads-heads.ensures old c.if-goes_on.queue.items all.0 (λ i. cc (c.nullable.ensures.1 i, c.if-nullable.false))
 
 pub returns-in_ok-push-2-clause-lists : goal.returns-in_ok-push-2-clause-lists
-returns-in_ok-push-2-clause-lists c = rw c.in_ok-push-2.ensures.items (front_push c.args.queue.now.items c.loop-n.queue.items _ _ (c.loop-n.invariant.0).2)
+returns-in_ok-push-2-clause-lists c =
+    let front : IsFrontOf c.args.queue.now.items c.if-goes_on.queue.items =
+    elim c.if-goes_on.branch [
+      | then-goes_on+else-loop-n-test w ↦
+          let same : c.if-goes_on.queue.items ≡ w.loop-n.queue.items = cc w.queue-is in
+          (_, (same ∙ (w.loop-n.invariant.0).2))
+      | else-goes_on w ↦
+          let same : c.if-goes_on.queue.items ≡ c.args.queue.now.items = cc w.queue-is in
+          front_is c.args.queue.now.items c.if-goes_on.queue.items same
+    ] in
+    rw c.in_ok-push-2.ensures.items (front_push c.args.queue.now.items c.if-goes_on.queue.items front.0 _ front.1)
+
+pub returns-in_err-push-2-clause-lists : goal.returns-in_err-push-2-clause-lists
+returns-in_err-push-2-clause-lists c =
+    let front : IsFrontOf c.args.queue.now.items c.if-goes_on.queue.items =
+    elim c.if-goes_on.branch [
+      | then-goes_on+else-loop-n-test w ↦
+          let same : c.if-goes_on.queue.items ≡ w.loop-n.queue.items = cc w.queue-is in
+          (_, (same ∙ (w.loop-n.invariant.0).2))
+      | else-goes_on w ↦
+          let same : c.if-goes_on.queue.items ≡ c.args.queue.now.items = cc w.queue-is in
+          front_is c.args.queue.now.items c.if-goes_on.queue.items same
+    ] in
+    rw c.in_err-push-2.ensures.items front
 
 pub returns-else-nullable-clause-lists : goal.returns-else-nullable-clause-lists
-returns-else-nullable-clause-lists c = (_, (c.loop-n.invariant.0).2)
+returns-else-nullable-clause-lists c =
+    elim c.if-goes_on.branch [
+      | then-goes_on+else-loop-n-test w ↦
+          let same : c.if-goes_on.queue.items ≡ w.loop-n.queue.items = cc w.queue-is in
+          (_, (same ∙ (w.loop-n.invariant.0).2))
+      | else-goes_on w ↦
+          let same : c.if-goes_on.queue.items ≡ c.args.queue.now.items = cc w.queue-is in
+          front_is c.args.queue.now.items c.if-goes_on.queue.items same
+    ]
