@@ -11,6 +11,7 @@ pub mod Looking
 pub mod Moving
 pub mod Needing
 pub mod Offering
+pub mod Passing
 pub mod Replying
 pub mod Resting
 pub mod Rooting

@@ -1,10 +1,11 @@
-ghost use Rattle.std.specs.Prelude.{◌≡◌, ◌<◌, ◌≤◌, ◌^◌, [], ◌∷◌, ◌++◌, length, take, slice_index_or, IfSome, IfOk, OnOk, OnErr};
-ghost use Rattle.sg_engine.specs.Nodes.{NodeOf, RestOf, rest_at, IsRestAfter};
+ghost use Rattle.std.specs.Prelude.{false, ◌≡◌, ◌<◌, ◌≤◌, ◌^◌, [], ◌∷◌, ◌++◌, length, take, slice_index_or, IfSome, IfOk, OnOk, OnErr};
+ghost use Rattle.sg_engine.specs.Nodes.{NodeOf, RestOf, rest_at, IsRestAfter, IsPassed, StayPassed, EndElsewhere};
 
 use crate::rest::Rest;
-use sg_base::{Label, Step};
+use sg_base::{Label, Scope, Step};
 use sg_expr::Expr;
 use std::alloc::{AllocError, Global};
+use std::collections::HashSet;
 use std::marker::Model;
 
 /// A path as another path with one more step, by the place of that path's node, and the place of the words that may follow
@@ -18,11 +19,13 @@ pub struct Node {
 
 /// Paths that share their fronts, each with the words that may follow its word. Words that follow the same words over the
 /// same label are kept once where they were derived lately. The first node stands for the path with no step, and its step
-/// ends at the start.
+/// ends at the start. The start is `passed`, and so is each scope once a path goes on from it; `last` was put there last.
 #[derive(Drop)]
 pub struct Nodes {
     rests: Vec<Rest>,
     nodes: Vec<Node>,
+    passed: HashSet<Scope>,
+    last: Scope,
 }
 
 impl Model for Nodes {
@@ -30,7 +33,7 @@ impl Model for Nodes {
     ghost use Rattle.std.specs.Coded.{codes};
     ghost use Rattle.std.specs.List.{AllByRecursion};
     ghost use Rattle.sg_expr.specs.contracts.expr.Expr as e;
-    ghost use Rattle.sg_engine.specs.Nodes.{NodesOf, AreRests, node_by};
+    ghost use Rattle.sg_engine.specs.Nodes.{NodesOf, AreRests, node_by, IsPassed, ParentsPass};
 
     ghost Value = { NodesOf };
 
@@ -38,7 +41,7 @@ impl Model for Nodes {
 
     ghost view = { λ n. record { rests = n.rests.items; items = map (node_by n.rests.items) n.nodes.items } };
 
-    ghost invariant = { λ n. AreRests n.rests.items × AllByRecursion (λ m. m.rest < length n.rests.items) n.nodes.items };
+    ghost invariant = { λ n. AreRests n.rests.items × AllByRecursion (λ m. m.rest < length n.rests.items) n.nodes.items × ParentsPass n.passed.keys (map (node_by n.rests.items) n.nodes.items) × IsPassed n.passed.keys n.last };
 }
 
 /// How many rests are looked at for the words that follow a label.
@@ -67,11 +70,26 @@ fn find(rests: &[Rest], from: usize, l: Label) -> Option<usize>
     None
 }
 
+/// Puts a scope among those that are passed, unless it was put there last. After want of memory they are what they were.
+fn pass(passed: &mut HashSet<Scope>, last: &mut Scope, from: Scope) -> Result<(), AllocError>
+    requires { IsPassed passed.old.keys last.old }
+    ensures stay { StayPassed passed.old.keys passed.new.keys }
+    ensures last { IsPassed passed.new.keys last.new }
+    ensures ok { OnOk result (IsPassed passed.new.keys from) }
+{
+    if from != *last {
+        passed.insert(from)?;
+        *last = from;
+    }
+    Ok(())
+}
+
 impl Nodes {
     /// The path with no step, by a step that ends at the start, and the words that follow it.
     pub fn root(alloc: Global, step: Step, rest: Rest) -> Result<Nodes, AllocError>
         ensures { IfOk result (λ n. (n.rests ≡ rest ∷ []) × (n.items ≡ record { parent = 0; step = step; rest = rest.expr } ∷ [])) }
     {
+        let last = step.to;
         let mut rests = Vec::new(alloc);
         rests.push(rest)?;
         let mut nodes = Vec::new(alloc);
@@ -80,7 +98,14 @@ impl Nodes {
             step,
             rest: 0,
         })?;
-        Ok(Nodes { rests, nodes })
+        let mut passed = HashSet::new(alloc);
+        passed.insert(last)?;
+        Ok(Nodes {
+            rests,
+            nodes,
+            passed,
+            last,
+        })
     }
 
     /// How many paths there are.
@@ -97,6 +122,15 @@ impl Nodes {
         ensures { (n : NodeOf) × (n ≡ slice_index_or self.now.items place n) × (result.now.parent ≡ n.parent) × (result.now.step ≡ n.step) }
     {
         &self.nodes[place]
+    }
+
+    /// Whether the node at a place ends at the scope, or the scope was passed. Takes constant time, as is expected of a
+    /// hash.
+    pub fn may_pass(&self, place: usize, t: Scope) -> bool
+        requires { place < length self.now.items }
+        ensures { result ≡ false → EndElsewhere self.now.items place t }
+    {
+        self.nodes[place].step.to == t || self.passed.contains(&t)
     }
 
     /// The words at a place.
@@ -124,18 +158,21 @@ impl Nodes {
         Ok(rest)
     }
 
-    /// Adds a path with one more step, which these words follow.
+    /// Adds a path with one more step, which these words follow. The scope that it goes on from is passed then.
     pub fn push(&mut self, parent: usize, step: Step, rest: usize) -> Result<(), AllocError>
-        requires { rest < length self.old.rests }
+        requires there { parent < length self.old.items }
+        requires rest { rest < length self.old.rests }
         ensures rests { self.new.rests ≡ self.old.rests }
         ensures ok { OnOk result (self.new.items ≡ self.old.items ++ record { parent = parent; step = step; rest = rest_at self.old.rests rest } ∷ []) }
         ensures err { OnErr result (self.new.items ≡ self.old.items) }
     {
+        let from = self.nodes[parent].step.to;
+        pass(&mut self.passed, &mut self.last, from)?;
         self.nodes.push(Node { parent, step, rest })?;
         Ok(())
     }
 
-    /// Takes back all paths but the first ones. Words that were derived stay.
+    /// Takes back all paths but the first ones. Words that were derived and scopes that were passed stay.
     pub fn truncate(&mut self, len: usize)
         ensures { self.new.items ≡ take len self.old.items }
     {

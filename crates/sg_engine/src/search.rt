@@ -18,9 +18,9 @@ use std::marker::Model;
 /// A search for the answer of a query in a held graph, which keeps what it has explored from one advance to the next.
 ///
 /// The paths that it found share their fronts. An item costs a look-up and what it adds: a node for each new path, and a
-/// walk up the path for each target. The expression of the words that may follow is taken off behind the same words over
-/// the same label only where it is not among the latest 32 that were taken off. After want of memory the search is what it
-/// was.
+/// look-up for each target, with a walk up the path where some path went on from the target. The expression of the words
+/// that may follow is taken off behind the same words over the same label only where it is not among the latest 32 that
+/// were taken off. After want of memory the search is what it was.
 #[derive(Drop)]
 pub struct Search<I: Instance> {
     alloc: Global,

@@ -106,13 +106,16 @@ impl<D> Tree<D> {
         Ok(())
     }
 
-    /// Whether the path of a node passes by the scope nowhere. Walks up the node's parents, which takes the time of the
-    /// path's length.
+    /// Whether the path of a node passes by the scope nowhere. A look-up where no path goes on from the scope; otherwise a
+    /// walk up the node's parents, which takes the time of the path's length.
     pub fn is_fresh_at(&self, place: usize, t: Scope) -> bool
         requires tree { (e : ExprOf) × IsTree e self.now }
         requires there { place < length self.now.nodes.items }
         ensures { result ≡ is_fresh self.now.start (path_at (paths_of self.now.nodes.items) place) t }
     {
+        if !self.nodes.may_pass(place, t) {
+            return t != self.start;
+        }
         let mut k = place;
         while k != 0 {
             let node = self.nodes.at(k);
