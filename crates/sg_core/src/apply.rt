@@ -8,6 +8,20 @@ use std::alloc::AllocError;
 
 impl<I: Instance, R: Drop> Core<I, R> {
     /// Applies one operation of a unit that may do it, and logs it with its reply. After want of memory nothing has changed.
+    ///
+    /// A write costs what it costs in the held graph (`Held::fresh`, `add_edge`, `set_datum`, `close_row`), and a datum that
+    /// is set is copied. Where that sets a datum or closes a row, a look-up finds the units that wait for it, and each of
+    /// them then costs a look-up for each of its needs. `Ask` costs a copy of the query and of its expression, and `Take` a
+    /// copy of the answer.
+    ///
+    /// `Advance` takes constant time where the unit waits. Otherwise it costs an advance of the search, which explores 64 items
+    /// at most (`Search::advance`), and where that is blocked a few look-ups for each need. `End` costs sixteen look-ups for
+    /// each scope at which the unit was ever given a hold, and for each row and each unset datum that it held alone what
+    /// setting or closing that costs. Where the operation leaves the run stuck, what is shown costs a look at each unit, and
+    /// a few look-ups for each that waits.
+    ///
+    /// No other unit is looked at, but for those of a block of 256 where a unit begins to wait or ends, and no earlier entry
+    /// of the log: they are moved where its list grows.
     pub fn apply(&mut self, unit: u32, op: Op<I, R>) -> Result<Reply<I>, AllocError>
         requires may { MayDo I.wants I.same_datum self.old unit op }
         ensures ok { IfOk result (Applies I.wants I.same_datum self.old self.new unit op) }

@@ -29,3 +29,6 @@ mod writing;
 pub use ask_state::AskState;
 pub use machine::Core;
 pub use phase::Phase;
+
+#[cfg(test)]
+mod tests;
