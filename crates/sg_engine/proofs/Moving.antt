@@ -1,5 +1,5 @@
 -- Trees whose nodes are kept in another way.
-use Rattle.std.proofs.Common.{◌≡◌, ◌≤◌, List, length, sym, subst}
+use Rattle.std.proofs.Common.{◌≡◌, List, sym, subst}
 use Rattle.sg_expr.specs.declared.expr.Expr.{Expr}
 use Rattle.sg_engine.specs.declared.tree.Tree.{Tree}
 use Rattle.sg_engine.specs.Nodes.{NodeOf, NodesOf}

@@ -1,5 +1,5 @@
 -- Work that is taken from the queue: explored, or put aside.
-use Rattle.std.proofs.Common.{◌≡◌, ℕ, ◌<◌, ◌≤◌, ◌+◌, List, [], ◌∷◌, ◌++◌, Bool, true, false, length, drop, sym, ap, ◌∙◌, subst, append_assoc}
+use Rattle.std.proofs.Common.{◌≡◌, ◌<◌, ◌≤◌, ◌+◌, List, [], ◌∷◌, ◌++◌, Bool, true, false, length, drop, sym, ap, ◌∙◌, subst, append_assoc}
 use Rattle.std.specs.List.{AllByRecursion}
 use Rattle.sg_base.specs.declared.scope.Scope.{Scope}
 use Rattle.sg_base.specs.State.{State}
@@ -9,7 +9,7 @@ use Rattle.sg_engine.specs.declared.tree.Tree.{Tree}
 use Rattle.sg_engine.specs.declared.work.Work.{Work}
 use Rattle.sg_engine.specs.Front.{Stands}
 use Rattle.sg_engine.specs.Run.{HasTaken, KeepsBlocked}
-use Rattle.sg_engine.specs.Tree.{path_at, paths_of, place_of, front_on, IsTreeOn, IsTreeWith, StandsWith, BlocksWork, AllBlock}
+use Rattle.sg_engine.specs.Tree.{place_of, front_on, IsTreeOn, IsTreeWith, StandsWith, BlocksWork, AllBlock}
 use Rattle.sg_engine.proofs.Running.{all_still}
 use Rattle.sg_engine.proofs.Stepping.{each_push}
 

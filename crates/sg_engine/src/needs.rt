@@ -1,4 +1,4 @@
-ghost use Rattle.std.specs.Prelude.{◌≡◌, ◌<◌, ◌⊎◌, ◌↔◌, OnOk, IfOk, length};
+ghost use Rattle.std.specs.Prelude.{◌≡◌, ◌<◌, ◌↔◌, IfOk, length};
 ghost use Rattle.std.specs.List.{Contains, AllByRecursion};
 ghost use Rattle.sg_base.specs.declared.scope.Scope.{Scope as ScopeOf};
 ghost use Rattle.sg_base.specs.List.{IsRising};
@@ -25,34 +25,26 @@ fn need_at(nodes: &Nodes, w: &Work) -> Need
     }
 }
 
-/// The order of the type is that of needs.
-fn orders_agree()
-    ensures { (a b : NeedOf) → ⟦<Need as Ord>⟧.cmp a b ≡ need_cmp a b }
-{}
-
-/// Adds a need to a rising list, which may have it already. Finding its place takes a binary search, and the needs above
-/// it are moved by one place.
-fn insert(needs: &mut Vec<Need>, need: Need) -> Result<(), AllocError>
-    requires rising { IsRising need_cmp needs.old.items }
-    ensures ok { OnOk result ((n : NeedOf) → (Contains needs.new.items n) ↔ (Contains needs.old.items n ⊎ (n ≡ need))) }
-    ensures rising { OnOk result (IsRising need_cmp needs.new.items) }
+/// What each piece of blocked work waits for, in turn.
+fn all_needs(alloc: Global, nodes: &Nodes, blocked: &[Work]) -> Result<Vec<Need>, AllocError>
+    requires there { AllByRecursion (λ w. place_of w < length nodes.now.items) blocked.now }
+    ensures { IfOk result (λ r. (e : ExprOf) (start : ScopeOf) → AreNodes e start nodes.now.items → (n : NeedOf) → (Contains r.items n) ↔ ((w : WorkOf) × Contains blocked.now w × (n ≡ need_of start (item_of (paths_of nodes.now.items) w)))) }
 {
-    orders_agree();
-    match needs.binary_search(&need) {
-        Ok(_) => Ok(()),
-        Err(at) => Ok(needs.insert(at, need)?),
+    let mut all = Vec::new(alloc);
+    for w in blocked {
+        all.push(need_at(nodes, w))?;
     }
+    Ok(all)
 }
 
-/// The rising list of what blocked work waits for.
+/// The rising list of what blocked work waits for, by one sort.
 pub fn needs_of(alloc: Global, nodes: &Nodes, blocked: &[Work]) -> Result<Vec<Need>, AllocError>
     requires there { AllByRecursion (λ w. place_of w < length nodes.now.items) blocked.now }
     ensures rising { IfOk result (λ r. IsRising need_cmp r.items) }
     ensures exact { IfOk result (λ r. (e : ExprOf) (start : ScopeOf) → AreNodes e start nodes.now.items → (n : NeedOf) → (Contains r.items n) ↔ ((w : WorkOf) × Contains blocked.now w × (n ≡ need_of start (item_of (paths_of nodes.now.items) w)))) }
 {
-    let mut needs = Vec::new(alloc);
-    for w in blocked {
-        insert(&mut needs, need_at(nodes, w))?;
-    }
+    let mut needs = all_needs(alloc, nodes, blocked)?;
+    needs.sort_unstable();
+    needs.dedup();
     Ok(needs)
 }

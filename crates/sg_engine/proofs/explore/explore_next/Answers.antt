@@ -1,8 +1,6 @@
-use Rattle.std.proofs.Common.{◌≡◌, ◌<◌, ◌≤◌, ◌+◌, ◌∷◌, length, drop, refl, sym, ◌∙◌, arith}
-use Rattle.sg_query.specs.Query.{Asked}
+use Rattle.std.proofs.Common.{◌≡◌, ◌<◌, ◌+◌, ◌∷◌, length, drop, refl, sym, ◌∙◌, arith}
 use Rattle.sg_state.specs.Held.{state_of}
 use Rattle.sg_engine.specs.declared.work.Work.{Work}
-use Rattle.sg_engine.specs.Run.{IsSearchIn}
 use Rattle.sg_engine.specs.Tree.{place_of, left_of, ListsOn}
 use Rattle.sg_engine.proofs.Listing.{lists_same, lists_chain}
 use Rattle.sg_engine.proofs.Looking.{queue_at, next_is}

@@ -1,7 +1,6 @@
-use Rattle.std.proofs.Common.{◌≡◌, subst, sym, IfOk}
+use Rattle.std.proofs.Common.{subst}
 use Rattle.sg_state.specs.Held.{state_of}
 use Rattle.sg_engine.specs.declared.work.Work.{Work}
-use Rattle.sg_engine.specs.Run.{HasTaken}
 use Rattle.sg_engine.specs.Tree.{IsTreeWith, StandsWith}
 use Rattle.sg_engine.proofs.explore.take.Goals as goal
 

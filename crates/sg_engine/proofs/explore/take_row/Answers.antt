@@ -8,7 +8,6 @@ use Rattle.sg_state.specs.Held.{state_of}
 use Rattle.sg_engine.specs.declared.work.Work.TheVariants.{Next}
 use Rattle.sg_engine.specs.Growth.{Gains, into_targets}
 use Rattle.sg_engine.specs.Tree.{path_at, paths_of, front_of, front_on}
-use Rattle.sg_engine.proofs.Listing.{front_same, front_more}
 use Rattle.sg_engine.proofs.Stepping.{step_next, tree_took}
 use Rattle.sg_engine.proofs.Taking.{aside_tree, aside_stands}
 use Rattle.sg_engine.proofs.Growing.{place_kept}

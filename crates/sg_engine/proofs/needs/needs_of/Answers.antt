@@ -1,27 +1,13 @@
-use Rattle.std.proofs.Common.{◌≡◌, ◌+◌, ◌<◌, ◌∷◌, ◌++◌, [], take, length, sym, ap, ◌∙◌}
-use Rattle.std.proofs.lemmas.List.{take_more, take_all}
-use Rattle.sg_base.proofs.Finite.{each_at}
-use Rattle.sg_engine.specs.declared.work.Work.{Work}
-use Rattle.sg_engine.specs.Need.{need_of}
-use Rattle.sg_engine.specs.Tree.{paths_of, item_of, place_of}
-use Rattle.sg_engine.proofs.Needing.{waits_more}
+use Rattle.std.proofs.lemmas.List.Filters.{dedup_is}
+use Rattle.sg_engine.proofs.Needing.{is_need, each_once_rises, each_once_holds}
 use Rattle.sg_engine.proofs.needs.needs_of.Goals as goal
 
-pub need_at-requires : goal.need_at-requires
-need_at-requires c =
-    record { there = each_at (λ (w : Work). place_of w < length c.args.nodes.now.items) c.args.blocked.now c.requires.there c.w-item.result (c.loop-w.w-index, c.loop-w-test.true, sym c.w-item.is) }
-
-pub loop-w-preserved : goal.loop-w-preserved
-loop-w-preserved c = (
-  c.in_ok-insert.ensures.rising,
-  (λ e start nodes.
-      let f = λ (w : Work). need_of start (item_of (paths_of c.args.nodes.now.items) w) in
-      let longer : take (c.loop-w.w-index + 1) c.args.blocked.now ≡ take c.loop-w.w-index c.args.blocked.now ++ c.w-item.result ∷ [] =
-      take_more c.args.blocked.now c.loop-w.w-index c.w-item.result c.loop-w-test.true ∙ ap (λ (x : Work). take c.loop-w.w-index c.args.blocked.now ++ x ∷ []) (sym c.w-item.is) in
-      rw longer (waits_more f (take c.loop-w.w-index c.args.blocked.now) c.w-item.result c.loop-w.needs.items c.insert.new.needs.items (rw (c.need_at.ensures e start nodes) at c.in_ok-insert.ensures.ok) (c.loop-w.invariant.1 e start nodes))),
-)
+pub returns-clause-rising : goal.returns-clause-rising
+returns-clause-rising c =
+    rw (dedup_is is_need c.sort_unstable.new.self.items c.dedup.new.self.items c.dedup.ensures.filtered) (each_once_rises c.in_ok-needs.needs.items c.sort_unstable.new.self.items c.sort_unstable.ensures.permutation c.sort_unstable.ensures.sorted)
 
 pub returns-clause-exact : goal.returns-clause-exact
-returns-clause-exact c = λ e start nodes.
-    let whole : take c.loop-w.w-index c.args.blocked.now ≡ c.args.blocked.now = take_all c.loop-w.w-index c.args.blocked.now c.loop-w-test.false in
-    rw whole at (c.loop-w.invariant.1 e start nodes)
+returns-clause-exact c = λ e start nodes n.
+    let once = each_once_holds c.in_ok-needs.needs.items c.sort_unstable.new.self.items c.sort_unstable.ensures.permutation c.sort_unstable.ensures.sorted n in
+    let all = c.in_ok-needs.ensures e start nodes n in
+    rw (dedup_is is_need c.sort_unstable.new.self.items c.dedup.new.self.items c.dedup.ensures.filtered) ((λ m. all.0 (once.0 m)), (λ h. once.1 (all.1 h)))

@@ -1,11 +1,7 @@
-use Rattle.std.proofs.Common.{◌<◌, length, drop, refl, sym, ◌∙◌, subst, arith}
-use Rattle.sg_base.specs.declared.scope.Scope.{Scope}
+use Rattle.std.proofs.Common.{arith}
 use Rattle.sg_state.specs.Held.{state_of}
-use Rattle.sg_engine.specs.declared.work.Work.{Work}
-use Rattle.sg_engine.specs.Tree.{place_of, left_of, AllBlock, ListsOn}
 use Rattle.sg_engine.proofs.Listing.{lists_chain}
-use Rattle.sg_engine.proofs.Looking.{next_is}
-use Rattle.sg_engine.proofs.Running.{each_left, all_still, looked_search, taken, free_head, free_fits, free_block, free_free}
+use Rattle.sg_engine.proofs.Running.{looked_search}
 use Rattle.sg_engine.proofs.run.run_on.Goals as goal
 
 pub look_on-requires : goal.look_on-requires

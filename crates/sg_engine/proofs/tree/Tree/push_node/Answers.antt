@@ -1,4 +1,3 @@
-use Rattle.std.proofs.Common.{◌≡◌, length, arith}
 use Rattle.sg_engine.specs.Nodes.{rest_at}
 use Rattle.sg_engine.proofs.Growing.{pushed_going, pushed_ending}
 use Rattle.sg_engine.proofs.Resting.{there_is}

@@ -1,4 +1,4 @@
-use Rattle.std.proofs.Common.{◌≡◌, List, refl, subst}
+use Rattle.std.proofs.Common.{List, refl, subst}
 use Rattle.sg_engine.specs.Growth.{Gains, into_targets}
 use Rattle.sg_engine.specs.Nodes.{NodeOf}
 use Rattle.sg_engine.specs.Tree.{path_at, paths_of, left_of, front_of, front_on}

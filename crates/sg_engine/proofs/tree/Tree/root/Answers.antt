@@ -1,6 +1,5 @@
 use Rattle.std.proofs.Common.{◌≡◌, [], refl, inl, inr, ap}
-use Rattle.sg_expr.specs.declared.expr.Expr.{Expr}
-use Rattle.sg_engine.specs.Nodes.{NodeOf, RestOf}
+use Rattle.sg_engine.specs.Nodes.{RestOf}
 use Rattle.sg_engine.proofs.Rooting.{Counts, root_made}
 use Rattle.sg_engine.proofs.tree.Tree.root.Goals as goal
 use Rattle.sg_engine.proofs.tree.Tree.root.Goals.{then-goes_on, else-goes_on}
