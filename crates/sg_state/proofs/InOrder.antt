@@ -34,10 +34,16 @@ is_same = (derived.ghosts).eq
 same_is : (s x : Scope) → is_same s x ≡ is_scope s x
 same_is s x = refl
 
+pub scopes_alike : (s x : Scope) → is_same s x ≡ true → s ≡ x
+scopes_alike s x e = scope_same s x (sym (same_is s x) ∙ e)
+
+pub alike_itself : (s : Scope) → is_same s s ≡ true
+alike_itself s = same_is s s ∙ same_scope s s refl
+
 same_each : (s x : Scope) → is_same s x ≡ is_at (scope_cmp s) x
 same_each s x =
     elim (cases_Bool (is_same s x)) [
-      | inl e ↦ e ∙ sym (subst (λ (y : Scope). is_at (scope_cmp s) y ≡ true) (scope_same s x (sym (same_is s x) ∙ e)) (ap is_eq (scope_itself s)))
+      | inl e ↦ e ∙ sym (subst (λ (y : Scope). is_at (scope_cmp s) y ≡ true) (scopes_alike s x e) (ap is_eq (scope_itself s)))
       | inr e ↦ elim (cases_Bool (is_at (scope_cmp s) x)) [
         | inl k ↦ let yes : is_same s x ≡ true = same_is s x ∙ same_scope s x (equal_scope s x (equal_of (scope_cmp s x) k)) in absurd (cc)
         | inr k ↦ e ∙ sym k
@@ -53,7 +59,7 @@ unique_distinct [] u = tt
 unique_distinct (k ∷ ks) u = (
   (λ c. (
       let no : is_same k k ≡ false = each_at (λ y. is_same k y ≡ false) ks u.0 k c in
-      let yes : is_same k k ≡ true = same_is k k ∙ same_scope k k refl in
+      let yes : is_same k k ≡ true = alike_itself k in
       cc)),
   unique_distinct ks u.1,
 )

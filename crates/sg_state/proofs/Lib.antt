@@ -1,5 +1,6 @@
 pub mod Keyed
 pub mod InOrder
+pub mod EachOnce
 pub mod Removing
 pub mod PlaceRows
 pub mod RisingLists

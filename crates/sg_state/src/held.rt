@@ -17,9 +17,10 @@ use crate::need::Need;
 use crate::opening::Opening;
 use crate::place::Place;
 use crate::places::{Places, leave_all};
+use crate::scope_list::ScopeList;
 use crate::slot::Slot;
 use crate::{copied, freed, lists, opened};
-use sg_base::{Graph, Instance, Label, LabelSet, Scope, ScopeSet};
+use sg_base::{Graph, Instance, Label, LabelSet, Scope};
 use std::alloc::{AllocError, Global};
 use std::collections::BTreeMap;
 use std::marker::Model;
@@ -32,7 +33,7 @@ pub struct Held<I: Instance> {
     alloc: Global,
     places: Places<I::Datum>,
     made: Vec<u32>,
-    lists: BTreeMap<u32, ScopeSet>,
+    lists: BTreeMap<u32, ScopeList>,
 }
 
 impl<I: Instance> Model for Held<I> {
@@ -62,8 +63,8 @@ impl<I: Instance> Held<I> {
         })
     }
 
-    /// The held graph of a sound opening. Costs look-ups for each thing that the opening lists, and moving the scopes
-    /// above it in the list of a unit for each hold.
+    /// The held graph of a sound opening. Costs look-ups for each thing that the opening lists, and moving the targets above
+    /// it in its row for each edge.
     pub fn open(alloc: Global, o: Opening<I::Datum>) -> Result<Held<I>, AllocError>
         requires sound { IsSoundOpening (opening_of o) }
         ensures opened { IfOk result (λ h. h ≡ opened_of (opening_of o)) }
@@ -123,8 +124,8 @@ impl<I: Instance> Held<I> {
         self.places.remove_holder(s, label, unit);
     }
 
-    /// Gives up all that the unit holds. Its unset data are absent from then on. Costs a look-up for each scope at
-    /// which the unit was ever given a hold, though it may have given that up: each hold that was given is looked at once.
+    /// Gives up all that the unit holds. Its unset data are absent from then on. Costs a look-up for each hold that the unit
+    /// was ever given, though it may have given that up: each is looked at once.
     pub fn end_unit(&mut self, unit: u32)
         ensures ended { self.new ≡ without_unit self.old unit }
         ensures sound { IsHeld self.new }
@@ -245,7 +246,7 @@ impl<I: Instance> Held<I> {
     }
 
     /// Makes the unit's next scope. The unit holds its rows with these labels, and its datum where that is wanted. Costs
-    /// a look-up, at most sixteen small insertions, and moving the scopes above it in the unit's list.
+    /// look-ups and at most sixteen small insertions.
     pub fn fresh(&mut self, unit: u32, labels: LabelSet, datum: bool) -> Result<Scope, AllocError>
         requires unit { unit < length self.old.made }
         requires room { slice_index self.old.made unit + 1 < 2 ^ 32 }
@@ -264,15 +265,15 @@ impl<I: Instance> Held<I> {
     }
 
     /// The rising list of the rows and unset data that the unit alone holds: rows by scope and label, then data by
-    /// scope. Costs sixteen look-ups for each scope at which the unit was ever given a hold, though it may have given that
-    /// up: where it is asked once, as the unit ends, each hold that was given is looked at once.
+    /// scope. Costs sorting the scopes at which the unit was ever given a hold, though it may have given that up, and sixteen
+    /// look-ups for each: where it is asked once, as the unit ends, each hold that was given is looked at once.
     pub fn frees(&self, unit: u32) -> Result<Vec<Need>, AllocError>
         ensures rising { IfOk result (λ ns. IsRising need_cmp ns.items) }
         ensures exact { IfOk result (λ ns. (n : NeedOf) → (Contains ns.items n) ↔ (HoldsAlone self.now unit n)) }
     {
-        let list = lists::listed(&self.lists, unit);
-        let mut needs = freed::rows(self.alloc, self, list, unit)?;
-        freed::add_data(self, list, unit, &mut needs)?;
+        let list = lists::rising(self.alloc, &self.lists, unit)?;
+        let mut needs = freed::rows(self.alloc, self, &list, unit)?;
+        freed::add_data(self, &list, unit, &mut needs)?;
         Ok(needs)
     }
 }

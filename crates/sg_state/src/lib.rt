@@ -17,6 +17,7 @@ mod opening;
 mod place;
 mod places;
 mod row;
+mod scope_list;
 mod slot;
 mod sound;
 mod unit_set;

@@ -14,8 +14,9 @@ ghost use Rattle.sg_state.specs.View.{ArePlaces, AreBare, Gives, HasKey, SlotAt,
 use crate::lists;
 use crate::place::Place;
 use crate::places::Places;
+use crate::scope_list::ScopeList;
 use crate::slot::Slot;
-use sg_base::{Label, Scope, ScopeSet};
+use sg_base::{Label, Scope};
 use std::alloc::{AllocError, Global};
 use std::collections::BTreeMap;
 
@@ -51,7 +52,7 @@ pub fn add_edges<D>(
 pub fn add_row_holds<D>(
     alloc: Global,
     places: &mut Places<D>,
-    units: &mut BTreeMap<u32, ScopeSet>,
+    units: &mut BTreeMap<u32, ScopeList>,
     list: &[(u32, Scope, Label)],
 ) -> Result<(), AllocError>
     requires places { ArePlaces places.old.entries }
@@ -73,7 +74,7 @@ pub fn add_row_holds<D>(
 pub fn add_datum_holds<D: Drop>(
     alloc: Global,
     places: &mut Places<D>,
-    units: &mut BTreeMap<u32, ScopeSet>,
+    units: &mut BTreeMap<u32, ScopeList>,
     list: &[(u32, Scope)],
 ) -> Result<(), AllocError>
     requires places { ArePlaces places.old.entries }

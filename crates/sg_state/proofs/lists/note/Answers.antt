@@ -5,25 +5,25 @@ use Rattle.sg_state.proofs.Noting.{kept_set, listed_set, kept_insert, listed_ins
 use Rattle.sg_state.proofs.PlaceRows.{set_same}
 use Rattle.sg_state.proofs.lists.note.Goals as goal
 
-pub returns-in_err-insert-in-Some-clause-kept : goal.returns-in_err-insert-in-Some-clause-kept
-returns-in_err-insert-in-Some-clause-kept c =
-    rw ((c.get_mut.follows.holds c.insert.new.self).0, set_same _ c.args.lists.now.entries c.in-Some.list.now c.insert.new.self (sym c.in-Some.ensures.value) c.in_err-insert-in-Some.ensures.err) (λ u s h. h)
+pub returns-in_err-push-in-Some-clause-kept : goal.returns-in_err-push-in-Some-clause-kept
+returns-in_err-push-in-Some-clause-kept c =
+    rw ((c.get_mut.follows.holds c.push.new.self).0, set_same _ c.args.lists.now.entries c.in-Some.list.now c.push.new.self (sym c.in-Some.ensures.value) c.in_err-push-in-Some.ensures.err) (λ u s h. h)
 
-pub returns-in_ok-insert-in-Some-clause-kept : goal.returns-in_ok-insert-in-Some-clause-kept
-returns-in_ok-insert-in-Some-clause-kept c =
-    rw (c.get_mut.follows.holds c.insert.new.self).0 (kept_set c.args.lists.now.entries c.requires.rising c.args.unit c.args.s c.in-Some.list.now c.insert.new.self (sym c.in-Some.ensures.value) c.in_ok-insert-in-Some.ensures.ok)
+pub returns-in_ok-push-in-Some-clause-kept : goal.returns-in_ok-push-in-Some-clause-kept
+returns-in_ok-push-in-Some-clause-kept c =
+    rw (c.get_mut.follows.holds c.push.new.self).0 (kept_set c.args.lists.now.entries c.requires.rising c.args.unit c.args.s c.in-Some.list.now c.push.new.self (sym c.in-Some.ensures.value) c.in_ok-push-in-Some.ensures.ok)
 
-pub returns-in_ok-insert-in-Some-clause-ok : goal.returns-in_ok-insert-in-Some-clause-ok
-returns-in_ok-insert-in-Some-clause-ok c =
-    rw (c.get_mut.follows.holds c.insert.new.self).0 (listed_set c.args.lists.now.entries c.requires.rising c.args.unit c.args.s c.in-Some.list.now c.insert.new.self (sym c.in-Some.ensures.value) c.in_ok-insert-in-Some.ensures.ok)
+pub returns-in_ok-push-in-Some-clause-ok : goal.returns-in_ok-push-in-Some-clause-ok
+returns-in_ok-push-in-Some-clause-ok c =
+    rw (c.get_mut.follows.holds c.push.new.self).0 (listed_set c.args.lists.now.entries c.requires.rising c.args.unit c.args.s c.in-Some.list.now c.push.new.self (sym c.in-Some.ensures.value) c.in_ok-push-in-Some.ensures.ok)
 
-pub returns-in_ok-insert-in-None-2-clause-kept : goal.returns-in_ok-insert-in-None-2-clause-kept
-returns-in_ok-insert-in-None-2-clause-kept c =
-    rw (c.in_ok-insert-in-None-2.ensures.entries, c.get_mut.follows.holds-at-none) (kept_insert c.args.lists.now.entries c.args.unit c.insert-in-None.new.self (sym c.in-None.ensures.value))
+pub returns-in_ok-insert-in-None-clause-kept : goal.returns-in_ok-insert-in-None-clause-kept
+returns-in_ok-insert-in-None-clause-kept c =
+    rw (c.in_ok-insert-in-None.ensures.entries, c.get_mut.follows.holds-at-none) (kept_insert c.args.lists.now.entries c.args.unit c.push-in-None.new.self (sym c.in-None.ensures.value))
 
-pub returns-in_ok-insert-in-None-2-clause-ok : goal.returns-in_ok-insert-in-None-2-clause-ok
-returns-in_ok-insert-in-None-2-clause-ok c =
-    rw (c.in_ok-insert-in-None-2.ensures.entries, c.get_mut.follows.holds-at-none) (listed_insert c.args.lists.now.entries c.args.unit c.insert-in-None.new.self (sym c.in-None.ensures.value) c.args.s ((c.in_ok-insert-in-None.ensures.ok c.args.s).1 (inr refl)))
+pub returns-in_ok-insert-in-None-clause-ok : goal.returns-in_ok-insert-in-None-clause-ok
+returns-in_ok-insert-in-None-clause-ok c =
+    rw (c.in_ok-insert-in-None.ensures.entries, c.get_mut.follows.holds-at-none) (listed_insert c.args.lists.now.entries c.args.unit c.push-in-None.new.self (sym c.in-None.ensures.value) c.args.s ((c.in_ok-push-in-None.ensures.ok c.args.s).1 (inr refl)))
 
-pub returns-in_ok-insert-in-None-2-clause-rising : goal.returns-in_ok-insert-in-None-2-clause-rising
-returns-in_ok-insert-in-None-2-clause-rising c = rising_from_sorted nat_cmp (map (λ p. p.0) c.insert-in-None-2.new.self.entries) c.in_ok-insert-in-None-2.ensures.ordered
+pub returns-in_ok-insert-in-None-clause-rising : goal.returns-in_ok-insert-in-None-clause-rising
+returns-in_ok-insert-in-None-clause-rising c = rising_from_sorted nat_cmp (map (λ p. p.0) c.insert.new.self.entries) c.in_ok-insert-in-None.ensures.ordered
