@@ -1,28 +1,22 @@
 -- The order of needs, and the needs of blocked work.
 use Rattle.std.proofs.Common.{◌≡◌, ℕ, List, [], ◌∷◌, ◌++◌, ◌⊎◌, ◌↔◌, Bool, true, eqb, inl, inr, refl, sym, ap, ◌∙◌, subst}
-use Rattle.std.proofs.lemmas.Bool.{cases_Bool}
-use Rattle.std.proofs.lemmas.Cmp.{tied_itself}
 use Rattle.std.proofs.lemmas.List.Elements.{Contains-append_left, Contains-append_cases, Contains-push}
-use Rattle.std.proofs.lemmas.List.Kept.{IsStrictlySortedBy-dedup, Contains-from_dedup, Contains-dedup}
-use Rattle.std.proofs.lemmas.List.Sorted.{Contains-permutation, IsPermutation-sym}
-use Rattle.std.specs.Cmp.{IsEquivalence}
 use Rattle.std.specs.List.{Contains, dedup}
 use Rattle.std.specs.List.Sorted.{IsPermutation, IsSorted}
-use Rattle.std.specs.Ordering.{nat_cmp, is_eq, eq_by_cmp}
+use Rattle.std.specs.Ordering.{nat_cmp}
 use Rattle.std.specs.declared.cmp.Ordering.{Ordering}
 use Rattle.std.specs.declared.cmp.Ordering.TheVariants.{Equal}
 use Rattle.sg_base.specs.declared.scope.Scope.{Scope}
 use Rattle.sg_base.specs.List.{IsRising}
 use Rattle.sg_base.specs.Scope.{is_scope, scope_cmp}
 use Rattle.sg_base.proofs.Finite.{nothing_in, single}
-use Rattle.sg_base.proofs.Rising.{rising_from_sorted}
-use Rattle.sg_base.proofs.Rows.{equal_of}
 use Rattle.sg_base.proofs.Scopes.{equal_scope, equal_nat, then_equal, scope_same, same_scope, number_same, number_itself, both_true}
 use Rattle.sg_state.specs.declared.need.Need.{Need}
 use Rattle.sg_state.specs.declared.need.Need.TheVariants.{Row, Datum}
 use Rattle.sg_engine.specs.declared.work.Work.{Work}
 use Rattle.sg_state.specs.Need.{need_cmp, need_order, need_orders, need_total}
 use Rattle.sg_state.specs.contracts.need.NeedPartialEq.TheImpl as derived
+use Rattle.sg_state.proofs.EachOnce.{each_once_rises, each_once_holds}
 
 pub equal_need : (a b : Need) → need_cmp a b ≡ Equal → a ≡ b
 equal_need (Row s l) (Row t m) e =
@@ -48,43 +42,16 @@ need_itself : (a : Need) → is_need a a ≡ true
 need_itself (Row s l) = let k = same_scope s s refl in let m = number_itself l in cc
 need_itself (Datum s) = same_scope s s refl
 
-ties : (a b : Need) → is_need a b ≡ eq_by_cmp need_cmp a b
-ties a b =
-    elim (cases_Bool (is_need a b)) [
-      | inl e ↦ e ∙ sym (subst (λ (x : Need). is_eq (need_cmp a x) ≡ true) (same_need a b e) (ap is_eq (tied_itself need_total a)))
-      | inr e ↦ elim (cases_Bool (is_eq (need_cmp a b))) [
-        | inl k ↦ let yes : is_need a b ≡ true = subst (λ (x : Need). is_need a x ≡ true) (equal_need a b (equal_of (need_cmp a b) k)) (need_itself a) in absurd (cc)
-        | inr k ↦ e ∙ sym k
-      ]
-    ]
-
-answers_same : (a b c d : Need) → (is_need a b ≡ true → is_need c d ≡ true) → (is_need c d ≡ true → is_need a b ≡ true) → is_need a b ≡ is_need c d
-answers_same a b c d f g =
-    elim (cases_Bool (is_need a b)) [
-      | inl e ↦ e ∙ sym (f e)
-      | inr e ↦ elim (cases_Bool (is_need c d)) [ inl k ↦ let yes = g k in absurd (cc) | inr k ↦ e ∙ sym k ]
-    ]
-
-turned : (a b : Need) → is_need a b ≡ true → is_need b a ≡ true
-turned a b e = subst (λ (x : Need). is_need x a ≡ true) (same_need a b e) (need_itself a)
-
-needs_equal : IsEquivalence is_need
-needs_equal = record {
-  refl = need_itself;
-  symm = λ a b. answers_same a b b a (turned a b) (turned b a);
-  congr = λ a b c e. subst (λ (x : Need). is_need a c ≡ is_need x c) (same_need a b e) refl;
-}
-
 -- what is sorted, without what stands twice
 module _ (xs ys : List Need) (moved : IsPermutation xs ys) (sorted : IsSorted need_order ys) where
-  pub each_once_rises : IsRising need_cmp (dedup is_need ys)
-  each_once_rises = rising_from_sorted need_cmp (dedup is_need ys) (IsStrictlySortedBy-dedup need_total ties ys (subst (λ (R : Need → Need → Ordering). IsSorted R ys) need_orders sorted))
+  by_needs : IsSorted need_cmp ys
+  by_needs = subst (λ (R : Need → Need → Ordering). IsSorted R ys) need_orders sorted
 
-  pub each_once_holds : (n : Need) → (Contains (dedup is_need ys) n) ↔ (Contains xs n)
-  each_once_holds n = (
-    (λ c. Contains-permutation ys xs n (IsPermutation-sym xs ys moved) (Contains-from_dedup is_need ys n c)),
-    (λ c. Contains-dedup needs_equal same_need ys n (Contains-permutation xs ys n moved c)),
-  )
+  pub needs_rise : IsRising need_cmp (dedup is_need ys)
+  needs_rise = each_once_rises need_cmp need_total equal_need is_need same_need need_itself xs ys moved by_needs
+
+  pub needs_hold : (n : Need) → (Contains (dedup is_need ys) n) ↔ (Contains xs n)
+  needs_hold = each_once_holds need_cmp need_total equal_need is_need same_need need_itself xs ys moved by_needs
 
 -- ---- the needs of a list of work
 
