@@ -25,13 +25,13 @@ use Rattle.sg_unit.specs.declared.op.Op.TheVariants.{Fresh, AddEdge, SetDatum, C
 use Rattle.sg_unit.specs.declared.reply.Reply.{Reply}
 use Rattle.sg_unit.specs.declared.reply.Reply.TheVariants.{Made, Done, Moved, Ready as ReadyOf, Suspended, Answer as Answered, Stuck}
 use Rattle.sg_unit.specs.Operation.{goes_on, woken_by, waits_by}
-use Rattle.sg_unit.specs.Run.{Setting, RunOf, Asking, no_ask, open_ask, ready_ask, asked_by, opened, held_after, advanced, ask_after, after, run_of, IsFor}
+use Rattle.sg_unit.specs.Run.{Setting, RunOf, Asking, open_ask, asked_by, opened, held_after, advanced, ask_after, after, run_of, IsFor}
 use Rattle.sg_unit.specs.Step.{May, Replies, IsStep}
 use Rattle.sg_unit.specs.Waiting.{Blocks, IsStillOpen, Needs, IsWoken}
 use Rattle.sg_unit.proofs.Asks.{IsAskedRun, ready_for}
 use Rattle.sg_unit.proofs.Growing.{runs_grow, runs_hold}
 use Rattle.sg_unit.proofs.Steps.{op_follows, op_held, in_run}
-use Rattle.sg_unit.proofs.Waiters.{IsWaitedRun, opened_waited, run_waited, kept_open, step_waited, open_or}
+use Rattle.sg_unit.proofs.Waiters.{IsWaitedRun, opened_waited, run_waited, kept_open}
 use Rattle.sg_unit.proofs.Writes.{is_num, num_is}
 use Rattle.sg_waits.specs.declared.status.Status.TheVariants.{Ended, Runs, Waits}
 use Rattle.sg_waits.specs.declared.status.Status.{Status}

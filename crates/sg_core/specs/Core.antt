@@ -1,10 +1,9 @@
 -- A core as callers see it: what its run began with, and the log of what was applied.
-use Rattle.std.specs.Prelude.{◌≡◌, ℕ, ◌<◌, ◌^◌, List, [], ◌∷◌, ◌++◌, Bool, Option, Some, None, IsTrue, IsFalse, ◌↔◌, length}
+use Rattle.std.specs.Prelude.{◌≡◌, ℕ, ◌<◌, ◌^◌, List, [], ◌∷◌, ◌++◌, Bool, IsTrue, IsFalse, length}
 use Rattle.std.specs.List.{Contains}
 use Rattle.std.specs.Ordering.{nat_cmp, on}
 use Rattle.sg_base.specs.List.{IsRising}
 use Rattle.sg_query.specs.declared.kind.Kind.{Kind}
-use Rattle.sg_state.specs.declared.need.Need.{Need}
 use Rattle.sg_state.specs.Held.{HeldOf}
 use Rattle.sg_state.specs.Opening.{IsOpening}
 use Rattle.sg_unit.specs.declared.entry.Entry.{Entry}

@@ -1,8 +1,6 @@
 -- What a core keeps beside its log, and how that is tied to what the log says.
-use Rattle.std.specs.Prelude.{◌≡◌, ℕ, ◌*◌, ◌<◌, ◌≤◌, ◌^◌, List, [], Bool, Option, Some, None, IsTrue, ◌↔◌, length, slice_get, slice_index_or}
+use Rattle.std.specs.Prelude.{◌≡◌, ℕ, ◌*◌, ◌<◌, ◌≤◌, ◌^◌, List, Option, Some, None, IsTrue, ◌↔◌, length, slice_get, slice_index_or}
 use Rattle.std.specs.List.{Contains}
-use Rattle.sg_base.specs.State.{State}
-use Rattle.sg_query.specs.declared.kind.Kind.{Kind}
 use Rattle.sg_query.specs.declared.query.Query.{Query}
 use Rattle.sg_query.specs.Answer.{IsAnswer}
 use Rattle.sg_engine.specs.Front.{Stands}

@@ -2,7 +2,6 @@ pub mod Advance
 pub mod Core
 pub mod Ending
 pub mod Kept
-pub mod KeptAsk
 pub mod Law
 pub mod Searching
 pub mod Showing

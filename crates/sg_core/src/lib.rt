@@ -12,7 +12,6 @@ mod asking;
 mod copied;
 mod ending;
 mod holding;
-mod kept_ask;
 pub mod laws;
 mod machine;
 mod may;
