@@ -15,13 +15,13 @@ impl<I: Instance, R: Drop> Core<I, R> {
     /// copy of the answer.
     ///
     /// `Advance` takes constant time where the unit waits. Otherwise it costs an advance of the search, which explores 64 items
-    /// at most (`Search::advance`), and where that is blocked a few look-ups for each need. `End` costs sixteen look-ups for
-    /// each scope at which the unit was ever given a hold, and for each row and each unset datum that it held alone what
-    /// setting or closing that costs. Where the operation leaves the run stuck, what is shown costs a look at each unit, and
-    /// a few look-ups for each that waits.
+    /// at most (`Search::advance`); where that is blocked, a few look-ups for each need; and where it is ready, letting go of
+    /// what the search kept. `End` costs sixteen look-ups for each scope at which the unit was ever given a hold, and for each
+    /// row and each unset datum that it held alone what closing or setting that costs. Where the operation makes the run
+    /// stuck, what is shown costs a look at each unit, and a few look-ups for each that waits.
     ///
-    /// No other unit is looked at, but for those of a block of 256 where a unit begins to wait or ends, and no earlier entry
-    /// of the log: they are moved where its list grows.
+    /// No other unit is looked at, but for those of a block of 256 where a unit begins to wait or ends. No earlier entry of
+    /// the log is looked at; they are moved where its list grows.
     pub fn apply(&mut self, unit: u32, op: Op<I, R>) -> Result<Reply<I>, AllocError>
         requires may { MayDo I.wants I.same_datum self.old unit op }
         ensures ok { IfOk result (Applies I.wants I.same_datum self.old self.new unit op) }
