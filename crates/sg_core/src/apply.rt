@@ -16,9 +16,9 @@ impl<I: Instance, R: Drop> Core<I, R> {
     ///
     /// `Advance` takes constant time where the unit waits. Otherwise it costs an advance of the search, which explores 64 items
     /// at most (`Search::advance`); where that is blocked, a few look-ups for each need; and where it is ready, letting go of
-    /// what the search kept. `End` costs sixteen look-ups for each scope at which the unit was ever given a hold, and for each
-    /// row and each unset datum that it held alone what closing or setting that costs. Where the operation makes the run
-    /// stuck, what is shown costs a look at each unit, and a few look-ups for each that waits.
+    /// what the search kept. `End` costs sorting the scopes at which the unit was ever given a hold, sixteen look-ups for each,
+    /// and for each row and each unset datum that it held alone what closing or setting that costs. Where the operation makes
+    /// the run stuck, what is shown costs a look at each unit, and a few look-ups for each that waits.
     ///
     /// No other unit is looked at, but for those of a block of 256 where a unit begins to wait or ends. No earlier entry of
     /// the log is looked at; they are moved where its list grows.

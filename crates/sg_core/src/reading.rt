@@ -70,7 +70,7 @@ impl<I: Instance, R: Drop> Core<I, R> {
         }
     }
 
-    /// A copy of the graph as it is now, with a copy of each datum. Costs a look-up for each scope, edge and datum.
+    /// A copy of the graph as it is now, with a copy of each datum. Costs sorting the scopes, and a look-up for each edge and datum.
     pub fn graph(&self) -> Result<Graph<I::Datum>, AllocError>
         ensures { IfOk result (λ g. g ≡ (run I.wants I.same_datum self.now).held.graph) }
     {
