@@ -1,3 +1,4 @@
 pub mod Examples
+pub mod Serves
 pub mod Serving
 pub mod Settling

@@ -1,5 +1,5 @@
 -- Asks come to an end, and a run in which no unit can go on is over.
-use Rattle.std.proofs.Common.{◌≡◌, ◌≢◌, ℕ, zero, suc, ◌+◌, ◌<◌, List, [], ◌∷◌, ◌++◌, ◌⊎◌, Bool, true, false, IsTrue, eqb, inl, inr, refl, sym, ap, ◌∙◌, subst, arith, length, Option, Some, None, MatchOption}
+use Rattle.std.proofs.Common.{◌≡◌, ◌≢◌, ℕ, zero, suc, ◌<◌, [], ◌∷◌, ◌++◌, ◌⊎◌, Bool, true, false, IsTrue, eqb, inl, inr, refl, sym, ap, ◌∙◌, subst, arith, length, Option, Some, None, MatchOption}
 use Rattle.std.proofs.lemmas.Bool.{cases_Bool}
 use Rattle.std.proofs.lemmas.Bool.Decides.{nat_tests}
 use Rattle.sg_unit.specs.declared.entry.Entry.{Entry}
@@ -8,13 +8,12 @@ use Rattle.sg_unit.specs.declared.op.Op.TheVariants.{Advance, Take}
 use Rattle.sg_unit.specs.declared.reply.Reply.{Reply}
 use Rattle.sg_unit.specs.Bound.{weight}
 use Rattle.sg_unit.specs.Run.{Setting, RunOf, opened, run_of, after}
-use Rattle.sg_unit.specs.Waiting.{IsStuck}
 use Rattle.sg_unit.proofs.Falling.{asks_fall}
 use Rattle.sg_unit.proofs.Growing.{runs_hold}
 use Rattle.sg_unit.proofs.Steps.{run_sound, opened_sound}
 use Rattle.sg_unit.proofs.Writes.{is_num, num_is}
 use Rattle.sg_core.specs.declared.phase.Phase.TheVariants.{Ended, Stuck}
-use Rattle.sg_core.specs.Core.{CoreOf, IsCore, IsRunnable, IsPhase, Applies, entry, logged, setting, run}
+use Rattle.sg_core.specs.Core.{CoreOf, IsCore, IsRunnable, IsPhase, Applies, entry, setting, run}
 use Rattle.sg_serial.specs.Serial.{GoesOnFrom, total, asks_left}
 
 total_same : {D P : Type 0} (z : Setting D P) (r t : RunOf D P) (n : ℕ) → ((v : ℕ) → v < n → weight z t v ≡ weight z r v) → total z t n ≡ total z r n
@@ -91,3 +90,6 @@ module _ {I R D P : Type 0} (wants : P → D → Bool) (same : D → D → Bool)
 pub none_left : (A : Type 0) (B : ℕ → Type 0) (o : Option ℕ) → MatchOption o A B → ((x : ℕ) → o ≡ Some x → ⊥) → A
 none_left A B None m n = m
 none_left A B (Some x) m n = absurd (n x refl)
+
+pub some_left : (A : Type 0) (B : ℕ → Type 0) (o : Option ℕ) (x : ℕ) → MatchOption o A B → o ≡ Some x → B x
+some_left A B o x m is = subst (λ (p : Option ℕ). MatchOption p A B) is m

@@ -1,5 +1,5 @@
 -- Units that are served one at a time.
-use Rattle.std.specs.Prelude.{◌≡◌, ℕ, zero, suc, ◌+◌, ◌<◌, List, [], ◌∷◌, Bool, true, false, Option, Some, None, ◌⊎◌, length, slice_get}
+use Rattle.std.specs.Prelude.{◌≡◌, ℕ, zero, suc, ◌+◌, List, [], ◌∷◌, ◌++◌, Bool, true, false, Option, Some, None, ◌⊎◌, length, slice_get}
 use Rattle.sg_query.specs.declared.kind.Kind.{Kind}
 use Rattle.sg_state.specs.Held.{HeldOf}
 use Rattle.sg_unit.specs.declared.entry.Entry.{Entry}
@@ -8,10 +8,10 @@ use Rattle.sg_unit.specs.declared.op.Op.TheVariants.{Fresh, AddEdge, SetDatum, C
 use Rattle.sg_unit.specs.declared.reply.Reply.{Reply}
 use Rattle.sg_unit.specs.Bound.{weight}
 use Rattle.sg_unit.specs.Own.{own}
-use Rattle.sg_unit.specs.Run.{Setting, RunOf, NoAsk}
+use Rattle.sg_unit.specs.Run.{Setting, RunOf, after, run_from}
 use Rattle.sg_unit.specs.Trace.{Past, told}
 use Rattle.sg_core.specs.declared.phase.Phase.TheVariants.{Ended, Stuck}
-use Rattle.sg_core.specs.Core.{CoreOf, IsCore, IsRunnable, IsPhase, setting, run}
+use Rattle.sg_core.specs.Core.{CoreOf, IsCore, IsRunnable, IsLeastRunnable, IsPhase, setting, run}
 
 -- the unit has given nothing, and has this number, opening and kinds
 abbrev pub IsNew : {I R D P V F : Type 0} → (V → ℕ) → (V → F) → (F → HeldOf D) → (F → List Kind) → (V → Past I R D P → Option (Op I R D P) → Type 0) → CoreOf I R D P → ℕ → V → Type 0
@@ -36,7 +36,40 @@ pub record HasRun {I R D P V F : Type 0} (wants : P → D → Bool) (same : D �
   pub over : IsPhase (run wants same c) Ended ⊎ IsPhase (run wants same c) Stuck
   pub each : (u : ℕ) (w : V) → slice_get units u ≡ Some w → SomeStands number fixed stands c.log u (fixed w)
 
+-- ---- which unit steps when
+
+-- each choice in turn makes one entry of its unit where that runs, and is passed by otherwise; and these are all entries
+abbrev pub AreChosen : {I R D P : Type 0} → RunOf D P → List ℕ → List (Entry I R D P) → Type 0
+AreChosen r [] log = log ≡ []
+AreChosen {I} {R} {D} {P} r (u ∷ us) log =
+    (IsRunnable r u × ((e : Entry I R D P) × (rest : List (Entry I R D P)) × (log ≡ e ∷ rest) × (e.unit ≡ u) × AreChosen (after r e) us rest))
+    ⊎ ((IsRunnable r u → ⊥) × AreChosen r us log)
+
+-- each entry is of the least unit that runs
+abbrev pub AreLeastFirst : {I R D P : Type 0} → RunOf D P → List (Entry I R D P) → Type 0
+AreLeastFirst r [] = Unit {0}
+AreLeastFirst r (e ∷ es) = IsLeastRunnable r e.unit × AreLeastFirst (after r e) es
+
+-- first come the entries of the choices, and then those of the least units that run
+abbrev pub IsServedBy : {I R D P : Type 0} → RunOf D P → List ℕ → List (Entry I R D P) → Type 0
+IsServedBy {I} {R} {D} {P} r order log =
+    (chosen : List (Entry I R D P)) × (others : List (Entry I R D P)) × (log ≡ chosen ++ others) × AreChosen r order chosen × AreLeastFirst (run_from r chosen) others
+
 -- ---- while it runs
+
+-- the log gained one entry, which is of this unit
+abbrev pub AddsEntryOf : {I R D P : Type 0} → CoreOf I R D P → CoreOf I R D P → ℕ → Type 0
+AddsEntryOf {I} {R} {D} {P} old new u = (e : Entry I R D P) × (new.log ≡ old.log ++ e ∷ []) × (e.unit ≡ u)
+
+-- the log gained one entry of this unit if that runs, and nothing otherwise
+abbrev pub StepsIfRunnable : {I R D P : Type 0} → (P → D → Bool) → (D → D → Bool) → CoreOf I R D P → CoreOf I R D P → ℕ → Type 0
+StepsIfRunnable wants same old new u =
+    (IsRunnable (run wants same old) u × AddsEntryOf old new u) ⊎ ((IsRunnable (run wants same old) u → ⊥) × (new.log ≡ old.log))
+
+-- the log gained entries, each of the least unit that runs
+abbrev pub AddsLeastFirst : {I R D P : Type 0} → (P → D → Bool) → (D → D → Bool) → CoreOf I R D P → CoreOf I R D P → Type 0
+AddsLeastFirst {I} {R} {D} {P} wants same old new =
+    (more : List (Entry I R D P)) × (new.log ≡ old.log ++ more) × AreLeastFirst (run wants same old) more
 
 -- whether an operation is an ask
 abbrev pub is_ask : {I R D P : Type 0} → Op I R D P → Bool

@@ -2,7 +2,7 @@
 
 ghost use Rattle.std.specs.Prelude.{◌≡◌, ◌<◌, List, IfOk};
 ghost use Rattle.sg_core.specs.Core.{IsCore, IsRunnable, run};
-ghost use Rattle.sg_serial.specs.Serial.{is_ask, IsTeam, GoesOnFrom, sum_of};
+ghost use Rattle.sg_serial.specs.Serial.{is_ask, IsTeam, GoesOnFrom, AddsEntryOf, sum_of};
 ghost use Rattle.sg_unit.specs.Run.{NoAsk};
 
 use sg_base::Instance;
@@ -39,6 +39,7 @@ pub fn give<U: Unit>(
     requires team { (start : List U) × IsTeam U.number U.fixed U.opening U.kinds U.stands start units.old.items replies.old.items core.old }
     ensures team { (start : List U) → IsTeam U.number U.fixed U.opening U.kinds U.stands start units.old.items replies.old.items core.old → IfOk result (λ _. IsTeam U.number U.fixed U.opening U.kinds U.stands start units.new.items replies.new.items core.new) }
     ensures core { IfOk result (λ _. IsCore U.Inst.wants U.Inst.same_datum core.new × GoesOnFrom core.old core.new) }
+    ensures adds { IfOk result (λ _. AddsEntryOf core.old core.new unit) }
     ensures falls { IfOk result (λ _. sum_of U.measure units.new.items < sum_of U.measure units.old.items) }
 {
     let last = replies[unit as usize].take();

@@ -1,8 +1,8 @@
 //! Asks that go on.
 
 ghost use Rattle.std.specs.Prelude.{◌≡◌, ◌<◌, ℕ, List, IfOk, IsTrue, IsFalse, MatchOption};
-ghost use Rattle.sg_core.specs.Core.{IsCore, IsRunnable, run};
-ghost use Rattle.sg_serial.specs.Serial.{IsTeam, GoesOnFrom, asks_left};
+ghost use Rattle.sg_core.specs.Core.{IsCore, IsRunnable, IsLeastRunnable, run};
+ghost use Rattle.sg_serial.specs.Serial.{IsTeam, GoesOnFrom, AddsEntryOf, AddsLeastFirst, asks_left};
 ghost use Rattle.sg_unit.specs.Run.{NoAsk};
 
 use sg_core::{AskState, Core};
@@ -20,6 +20,7 @@ pub fn push<U: Unit>(
     requires team { (start units : List U) × IsTeam U.number U.fixed U.opening U.kinds U.stands start units replies.old.items core.old }
     ensures team { (start units : List U) → IsTeam U.number U.fixed U.opening U.kinds U.stands start units replies.old.items core.old → IfOk result (λ _. IsTeam U.number U.fixed U.opening U.kinds U.stands start units replies.new.items core.new) }
     ensures core { IfOk result (λ _. IsCore U.Inst.wants U.Inst.same_datum core.new × GoesOnFrom core.old core.new) }
+    ensures adds { IfOk result (λ b. IsTrue b → AddsEntryOf core.old core.new unit) }
     ensures falls { IfOk result (λ b. IsTrue b → asks_left U.Inst.wants U.Inst.same_datum core.new < asks_left U.Inst.wants U.Inst.same_datum core.old) }
     ensures idle { IfOk result (λ b. IsFalse b → NoAsk (run U.Inst.wants U.Inst.same_datum core.new) unit × (core.new ≡ core.old)) }
 {
@@ -47,7 +48,8 @@ pub fn settle<U: Unit>(
     requires team { (start units : List U) × IsTeam U.number U.fixed U.opening U.kinds U.stands start units replies.old.items core.old }
     ensures team { (start units : List U) → IsTeam U.number U.fixed U.opening U.kinds U.stands start units replies.old.items core.old → IfOk result (λ _. IsTeam U.number U.fixed U.opening U.kinds U.stands start units replies.new.items core.new) }
     ensures core { IfOk result (λ _. IsCore U.Inst.wants U.Inst.same_datum core.new × GoesOnFrom core.old core.new) }
-    ensures least { IfOk result (λ o. MatchOption o ((u : ℕ) → IsRunnable (run U.Inst.wants U.Inst.same_datum core.new) u → ⊥) (λ u. IsRunnable (run U.Inst.wants U.Inst.same_datum core.new) u × NoAsk (run U.Inst.wants U.Inst.same_datum core.new) u)) }
+    ensures adds { IfOk result (λ _. AddsLeastFirst U.Inst.wants U.Inst.same_datum core.old core.new) }
+    ensures least { IfOk result (λ o. MatchOption o ((u : ℕ) → IsRunnable (run U.Inst.wants U.Inst.same_datum core.new) u → ⊥) (λ u. IsLeastRunnable (run U.Inst.wants U.Inst.same_datum core.new) u × NoAsk (run U.Inst.wants U.Inst.same_datum core.new) u)) }
 {
     while let Some(unit) = core.least_runnable() {
         if !push::<U>(core, replies, unit)? {

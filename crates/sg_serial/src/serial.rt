@@ -1,6 +1,6 @@
 ghost use Rattle.std.specs.Prelude.{◌≡◌, [], List, IfOk};
-ghost use Rattle.sg_core.specs.Core.{IsCore};
-ghost use Rattle.sg_serial.specs.Serial.{AreNew, HasRun, IsTeam, GoesOnFrom};
+ghost use Rattle.sg_core.specs.Core.{IsCore, run};
+ghost use Rattle.sg_serial.specs.Serial.{AreNew, HasRun, IsTeam, GoesOnFrom, IsServedBy, StepsIfRunnable};
 ghost use Rattle.sg_serial.specs.Replies.{AreNone};
 
 use crate::giving::give;
@@ -35,6 +35,7 @@ fn step<U: Unit>(
     requires team { (start : List U) × IsTeam U.number U.fixed U.opening U.kinds U.stands start units.old.items replies.old.items core.old }
     ensures team { (start : List U) → IsTeam U.number U.fixed U.opening U.kinds U.stands start units.old.items replies.old.items core.old → IfOk result (λ _. IsTeam U.number U.fixed U.opening U.kinds U.stands start units.new.items replies.new.items core.new) }
     ensures core { IfOk result (λ _. IsCore U.Inst.wants U.Inst.same_datum core.new × GoesOnFrom core.old core.new) }
+    ensures steps { IfOk result (λ _. StepsIfRunnable U.Inst.wants U.Inst.same_datum core.old core.new unit) }
 {
     if !core.is_runnable(unit) {
         return Ok(());
@@ -62,7 +63,8 @@ pub fn run_serial<U: Unit>(
 ) -> Result<Core<U::Inst, U::Outcome>, AllocError>
     requires opening { core.log ≡ [] }
     requires new { AreNew U.number U.fixed U.opening U.kinds U.stands core units.items }
-    ensures { IfOk result (HasRun U.Inst.wants U.Inst.same_datum U.number U.fixed U.stands core units.items) }
+    ensures ran { IfOk result (HasRun U.Inst.wants U.Inst.same_datum U.number U.fixed U.stands core units.items) }
+    ensures served { IfOk result (λ c. IsServedBy (run U.Inst.wants U.Inst.same_datum core) order.now c.log) }
 {
     let mut core = core;
     let mut units = units;
