@@ -644,34 +644,43 @@ fn has_both_edges(core: &Core<Numbers, u64>) -> Result<bool, AllocError> {
     Ok(scopes && first && second)
 }
 
+/// Does what an order says with two rows: the place of the first reply that is another, the phase then, and whether the graph
+/// has both edges.
+fn done_in(
+    alloc: Global,
+    order: &[(u32, Act, Option<Told>)],
+) -> Result<Option<(Option<usize>, Phase, bool)>, AllocError> {
+    match rows_core(alloc)? {
+        Some(mut core) => {
+            let other = acts(&mut core, order)?;
+            let both = has_both_edges(&core)?;
+            Ok(Some((other, core.phase(), both)))
+        }
+        None => Ok(None),
+    }
+}
+
 #[test]
 fn two_orders_give_one_graph(rt: HostRuntime) -> Result<(), Fail> {
     let done = Some(Told::Done(0, None));
-    let orders = [
-        [
-            (0, Act::Link(FIRST, SECOND), done),
-            (0, Act::Close(FIRST), done),
-            (0, Act::End(7), done),
-            (1, Act::Link(SECOND, FIRST), done),
-            (1, Act::Close(SECOND), done),
-            (1, Act::End(8), done),
-        ],
-        [
-            (1, Act::Link(SECOND, FIRST), done),
-            (0, Act::Link(FIRST, SECOND), done),
-            (1, Act::Close(SECOND), done),
-            (1, Act::End(8), done),
-            (0, Act::Close(FIRST), done),
-            (0, Act::End(7), done),
-        ],
+    let one_by_one = [
+        (0, Act::Link(FIRST, SECOND), done),
+        (0, Act::Close(FIRST), done),
+        (0, Act::End(7), done),
+        (1, Act::Link(SECOND, FIRST), done),
+        (1, Act::Close(SECOND), done),
+        (1, Act::End(8), done),
     ];
-    for order in orders {
-        let Some(mut core) = rows_core(rt.alloc())? else {
-            return Err("not sound".into());
-        };
-        assert_eq!(rt; acts(&mut core, &order)?, None);
-        assert_eq!(rt; core.phase(), Phase::Ended);
-        assert!(rt; has_both_edges(&core)?);
-    }
+    let in_turns = [
+        (1, Act::Link(SECOND, FIRST), done),
+        (0, Act::Link(FIRST, SECOND), done),
+        (1, Act::Close(SECOND), done),
+        (1, Act::End(8), done),
+        (0, Act::Close(FIRST), done),
+        (0, Act::End(7), done),
+    ];
+    let wanted = Some((None, Phase::Ended, true));
+    assert_eq!(rt; done_in(rt.alloc(), &one_by_one)?, wanted);
+    assert_eq!(rt; done_in(rt.alloc(), &in_turns)?, wanted);
     Ok(())
 }
