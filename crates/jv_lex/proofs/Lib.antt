@@ -6,3 +6,4 @@ pub mod FirstTokens
 pub mod Fronts
 pub mod Sources
 pub mod Scans
+pub mod Counts

@@ -1,5 +1,6 @@
 -- Lines and columns of byte offsets (JLS 3.4).
-use Rattle.std.specs.Prelude.{ℕ, zero, suc, ◌+◌, ◌-◌, Bool, ◌==◌, ◌&&◌, ◌||◌, not, nat_le, List, slice_index, if◌then◌else◌}
+use Rattle.std.specs.Prelude.{◌≡◌, ◌<◌, ◌≤◌, ℕ, zero, suc, ◌+◌, ◌-◌, Bool, ◌==◌, ◌&&◌, ◌||◌, not, nat_le, List, slice_index, if◌then◌else◌}
+use Rattle.jv_lex.specs.declared.line_column.Place.{Place}
 
 -- how many of the numbers below n pass
 abbrev pub count_below : (ℕ → Bool) → ℕ → ℕ
@@ -30,3 +31,12 @@ line_of bytes at = 1 + count_below (ends_line bytes) at
 -- the column of an offset, from 1: by the characters between the start of its line and the offset
 abbrev pub column_of : List ℕ → ℕ → ℕ
 column_of bytes at = 1 + (count_below (begins_character bytes) at - count_below (begins_character bytes) (line_start bytes at))
+
+-- the line and the column are those of the offset, but at the greatest number of 32 bits, whose line may not fit; neither is further on than the
+-- offset allows
+pub record IsPlace (bytes : List ℕ) (p : Place) : Type 0 where
+  pub line : p.at < 4294967295 → p.line ≡ line_of bytes p.at
+  pub column : p.at < 4294967295 → p.column ≡ column_of bytes p.at
+  pub within : p.line ≤ 1 + p.at
+  pub across : p.column ≤ 1 + p.at
+  pub from_one : 1 ≤ p.column

@@ -9,6 +9,7 @@ mod characters;
 mod fault;
 mod gaps;
 pub mod laws;
+mod line_column;
 mod numbers;
 mod places;
 mod punctuation;
@@ -20,6 +21,7 @@ mod token;
 mod words;
 
 pub use fault::LexFault;
+pub use line_column::Place;
 pub use places::place;
 pub use scanner::lex;
 pub use token::{Token, TokenKind};

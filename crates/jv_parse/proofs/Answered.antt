@@ -9,8 +9,11 @@ use Rattle.jv_grammar.specs.FileLaw.{ReadTreesDerive, ShallowFilesDeriveOnce}
 use Rattle.jv_grammar.specs.NestingLaw.{FewLevelsReadFiles}
 use Rattle.jv_grammar.specs.Load.{IsShallow}
 use Rattle.jv_parse.specs.declared.parse_fault.ParseFault.{ParseFault}
-use Rattle.jv_parse.specs.Identifiers.{idents_unit}
-use Rattle.jv_parse.specs.View.{left}
+use Rattle.jv_tree.specs.Identifiers.{idents_unit}
+use Rattle.jv_tree.specs.Numbered.{IsNumbered}
+use Rattle.jv_parse.specs.Identifiers.{AreNumberedTerminals}
+use Rattle.jv_parse.proofs.DeclNumbers.{numbered_file}
+use Rattle.jv_parse_expr.specs.View.{left}
 use Rattle.jv_parse.specs.Parse.{IsTreeOf, HasNoTree, Says}
 use Rattle.jv_parse.proofs.DeclIdentifiers.{few_in_file}
 
@@ -34,3 +37,8 @@ none_read ts k s few h = record { shallow = s; none = λ u d. refused u (few ts 
 pub few_identifiers : (ts : List Terminal) (n : ℕ) (r : Result File ParseFault) → length ts ≡ n → Says ts r → IfOk r (λ u. idents_unit (tree_of u) ≤ n)
 few_identifiers ts n (Ok u) l h = omega (arith, l, few_in_file ts (tree_of u) h.derives)
 few_identifiers ts n (Err e) l h = tt
+
+-- a tree of numbered terminals is numbered
+pub numbered_tree : (ts : List Terminal) (n : ℕ) (r : Result File ParseFault) → AreNumberedTerminals n ts → Says ts r → IfOk r (λ u. IsNumbered n (tree_of u))
+numbered_tree ts n (Ok u) h s = numbered_file n ts (tree_of u) s.derives h
+numbered_tree ts n (Err e) h s = tt

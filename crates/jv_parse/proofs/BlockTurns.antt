@@ -7,9 +7,9 @@ use Rattle.jv_grammar.specs.declared.terminal.Terminal.{Terminal}
 use Rattle.jv_grammar.specs.Reader.{Reads, ◌>>=◌}
 use Rattle.jv_grammar.specs.ExprReader.{Below}
 use Rattle.jv_grammar.specs.StmtReader.{BelowStmt, bstmt_by, bstmts_up_to, bstmts_by, ends_block}
-use Rattle.jv_parse.specs.declared.fault.Fault.{Fault}
-use Rattle.jv_parse.specs.View.{Fails}
-use Rattle.jv_parse.proofs.Faults.{fails_bind}
+use Rattle.jv_parse_expr.specs.declared.fault.Fault.{Fault}
+use Rattle.jv_parse_expr.specs.View.{Fails}
+use Rattle.jv_parse_expr.proofs.Faults.{fails_bind}
 use Rattle.jv_parse.proofs.VariableTurns.{stmts_onto, some_stmts, no_stmts_read, stmts_front_none, stmts_push, stmts_nil}
 
 abbrev bstmts_turn : Below → BelowStmt → ℕ → List Terminal → Reads StmtTrees

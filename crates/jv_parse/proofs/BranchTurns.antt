@@ -14,10 +14,10 @@ use Rattle.jv_grammar.specs.Reader.{Reads, ◌>>=◌, rest_of}
 use Rattle.jv_grammar.specs.ExprReader.{Below, below}
 use Rattle.jv_grammar.specs.StmtReader.{BelowStmt, below_stmt, paren_by, if_by, word_by, stmt_by}
 use Rattle.jv_grammar.proofs.StmtSound.{sound_stmt, starts_word_is}
-use Rattle.jv_parse.specs.declared.fault.Fault.{Fault}
-use Rattle.jv_parse.specs.View.{Fails}
+use Rattle.jv_parse_expr.specs.declared.fault.Fault.{Fault}
+use Rattle.jv_parse_expr.specs.View.{Fails}
 use Rattle.jv_parse.specs.StmtView.{Branching, alone, with_else, guarded_by, branches_by}
-use Rattle.jv_parse.proofs.Faults.{fails_bind}
+use Rattle.jv_parse_expr.proofs.Faults.{fails_bind}
 
 abbrev pub with_last : ElseTree → BranchTrees → Branching
 with_last y bs = (bs, y)

@@ -11,10 +11,10 @@ use Rattle.jv_grammar.specs.Reader.{Reads, ◌>>=◌, rest_of, closed}
 use Rattle.jv_grammar.specs.TypeReader.{name_of}
 use Rattle.jv_grammar.specs.ExprReader.{below, init_of}
 use Rattle.jv_grammar.specs.DeclReader.{ident_of, names_of, param_of, some_params_of, constants_of}
-use Rattle.jv_parse.specs.declared.fault.Fault.{Fault}
-use Rattle.jv_parse.specs.View.{Fails}
+use Rattle.jv_parse_expr.specs.declared.fault.Fault.{Fault}
+use Rattle.jv_parse_expr.specs.View.{Fails}
 use Rattle.jv_parse.specs.DeclView.{constant_of}
-use Rattle.jv_parse.proofs.Faults.{fails_bind}
+use Rattle.jv_parse_expr.proofs.Faults.{fails_bind}
 
 -- what is read already, in front of what is read behind it
 abbrev pub onto : {X T : Type 0} → (X → T) → List X → Reads (List T) → Reads (List T)

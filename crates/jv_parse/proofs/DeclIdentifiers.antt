@@ -9,7 +9,8 @@ use Rattle.jv_grammar.specs.DeclGrammar.{DerivesMods, mods_none, mods_more, Deri
 use Rattle.jv_grammar.specs.declared.terminal.Terminal.TheVariants.{Ident, Keyword, Literal, Minimum, MinimumLong, Punct}
 use Rattle.jv_parse.proofs.ExprIdentifiers.{counted_name, counted_names, counted_ty, counted_result, counted_args, counted_init}
 use Rattle.jv_parse.proofs.StmtIdentifiers.{counted_vars, counted_block, counted_bstmts}
-use Rattle.jv_parse.specs.Identifiers.{idents_names, idents_super_call, idents_stmts, idents_vars, idents_param, idents_params, idents_body, idents_decl, idents_decls, idents_member, idents_members, idents_package, idents_imports, idents_unit, idents_terminals}
+use Rattle.jv_tree.specs.Identifiers.{idents_names, idents_super_call, idents_stmts, idents_vars, idents_param, idents_params, idents_body, idents_decl, idents_decls, idents_member, idents_members, idents_package, idents_imports, idents_unit}
+use Rattle.jv_parse.specs.Identifiers.{idents_terminals}
 
 -- a derivation takes the identifiers of its tree, and no other
 pub counted_mods : {ks : List ℕ} {xs ys : List Terminal} → DerivesMods ks xs ys → idents_terminals ys ≡ idents_terminals xs

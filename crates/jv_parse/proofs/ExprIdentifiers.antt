@@ -10,7 +10,8 @@ use Rattle.jv_grammar.specs.ExprGrammar.{kind_of, literal_tree, DerivesExpr, exp
 use Rattle.jv_tree.specs.ExprTree as t
 use Rattle.jv_grammar.specs.declared.terminal.LiteralKind.{LiteralKind}
 use Rattle.jv_grammar.specs.declared.terminal.LiteralKind.TheVariants.{Int, Long, Char, Str, Bool, Null}
-use Rattle.jv_parse.specs.Identifiers.{idents_names, idents_base, idents_type, idents_expr, idents_kind, idents_operand, idents_init, idents_exprs, idents_inits, idents_links, idents_terminals}
+use Rattle.jv_tree.specs.Identifiers.{idents_names, idents_base, idents_type, idents_expr, idents_kind, idents_operand, idents_init, idents_exprs, idents_inits, idents_links}
+use Rattle.jv_parse.specs.Identifiers.{idents_terminals}
 
 -- what stands in parentheses has the identifiers of its kind, and a literal has none
 idents_of_kind : (e : ExprTree) → idents_kind (kind_of e) ≡ idents_expr e

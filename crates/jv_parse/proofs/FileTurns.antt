@@ -8,9 +8,9 @@ use Rattle.jv_grammar.specs.Marks.{semicolon}
 use Rattle.jv_grammar.specs.TypeGrammar.{starts}
 use Rattle.jv_grammar.specs.Reader.{◌>>=◌, rest_of}
 use Rattle.jv_grammar.specs.DeclReader.{type_of, types_of}
-use Rattle.jv_parse.specs.declared.fault.Fault.{Fault}
-use Rattle.jv_parse.specs.View.{Fails}
-use Rattle.jv_parse.proofs.Faults.{fails_bind}
+use Rattle.jv_parse_expr.specs.declared.fault.Fault.{Fault}
+use Rattle.jv_parse_expr.specs.View.{Fails}
+use Rattle.jv_parse_expr.proofs.Faults.{fails_bind}
 
 -- the types of a file, all terminals of which are taken
 abbrev pub Types : Type 0

@@ -10,9 +10,9 @@ use Rattle.jv_grammar.specs.Marks.{dot, star, word_import}
 use Rattle.jv_grammar.specs.TypeGrammar.{starts, starts_word}
 use Rattle.jv_grammar.specs.Reader.{Reads, ◌>>=◌, rest_of, starts_ident}
 use Rattle.jv_grammar.specs.DeclReader.{ident_of, path_of, import_of, imports_of}
-use Rattle.jv_parse.specs.declared.fault.Fault.{Fault}
-use Rattle.jv_parse.specs.View.{Fails}
-use Rattle.jv_parse.proofs.Faults.{fails_bind}
+use Rattle.jv_parse_expr.specs.declared.fault.Fault.{Fault}
+use Rattle.jv_parse_expr.specs.View.{Fails}
+use Rattle.jv_parse_expr.proofs.Faults.{fails_bind}
 use Rattle.jv_parse.proofs.FirstIdentifiers.{no_ident}
 use Rattle.jv_parse.proofs.CommaTurns.{onto, onto_nil, onto_push, some_items, no_items}
 

@@ -8,10 +8,10 @@ use Rattle.jv_grammar.specs.Marks.{brace_close, semicolon}
 use Rattle.jv_grammar.specs.TypeGrammar.{starts}
 use Rattle.jv_grammar.specs.Reader.{Reads, ◌>>=◌, rest_of}
 use Rattle.jv_grammar.specs.DeclReader.{BelowType, behind_mods, member_of, members_of, decl_of, type_of, below_type}
-use Rattle.jv_parse.specs.declared.fault.Fault.{Fault}
-use Rattle.jv_parse.specs.View.{Fails}
+use Rattle.jv_parse_expr.specs.declared.fault.Fault.{Fault}
+use Rattle.jv_parse_expr.specs.View.{Fails}
 use Rattle.jv_parse.specs.DeclView.{modifiers_of}
-use Rattle.jv_parse.proofs.Faults.{fails_bind}
+use Rattle.jv_parse_expr.proofs.Faults.{fails_bind}
 
 -- members that are read already, in front of those that are read behind them
 abbrev pub members_front : List Member → MemberTrees → MemberTrees

@@ -4,8 +4,9 @@ use Rattle.std.proofs.Math.Seq.{take-suc}
 use Rattle.std.proofs.lemmas.List.{map-append, length-append}
 use Rattle.std.proofs.lemmas.Bool.{cases_Bool}
 use Rattle.std.proofs.lemmas.Slice.Eq.{bytes_eq-Decides}
-use Rattle.std.specs.List.{list_any, fold, AllByRecursion}
-use Rattle.std.specs.Prelude.{slice_get}
+use Rattle.std.specs.List.{list_any, fold, All, AllByRecursion}
+use Rattle.std.specs.Prelude.{slice_get, nat_eq, ◌||◌}
+use Rattle.std.proofs.lemmas.List.Elements.{All-head, All-tail}
 use Rattle.std.specs.Result.{OnErr}
 use Rattle.std.specs.Str.{bytes_eq}
 use Rattle.jv_lex.specs.declared.token.Token.{Token}
@@ -13,6 +14,9 @@ use Rattle.jv_lex.specs.declared.token.TokenKind.{TokenKind}
 use Rattle.jv_lex.specs.declared.token.TokenKind.TheVariants as k
 use Rattle.jv_tree.specs.Names.{AreDistinct, with_text}
 use Rattle.jv_grammar.specs.declared.terminal.Terminal.{Terminal}
+use Rattle.jv_grammar.specs.declared.terminal.LiteralKind.TheVariants as l
+use Rattle.jv_grammar.specs.declared.terminal.Terminal.TheVariants as t
+use Rattle.jv_parse.specs.Identifiers.{AreNumberedTerminals}
 use Rattle.jv_parse.specs.Naming.{text_of, is_identifier, names_with, number_of, terminal_at, terminal_of, IsKnown, IsNamed}
 
 same_text : {x y : List ℕ} → Some x ≡ Some y → x ≡ y
@@ -187,3 +191,39 @@ names_grow source names new x e = let g : new ≡ names_after source names x = e
 pub on_err : {A E X : Type 0} (r : Result A E) → X → OnErr r X
 on_err (Ok a) x = tt
 on_err (Err e) x = x
+
+-- the number of a known text is that of a name
+some_below : (xs : List (List ℕ)) (i : ℕ) (x : List ℕ) → slice_get xs i ≡ Some x → i < length xs
+some_below [] i x h = absurd (none_some h)
+some_below (y ∷ ys) zero x h = omega arith
+some_below (y ∷ ys) (suc i) x h = omega (arith, some_below ys i x h)
+
+number_below : (names : List (List ℕ)) (x : List ℕ) → IsKnown names x → number_of names x < length names
+number_below names x h = some_below names (number_of names x) x (number_found names h.0 x h.1)
+
+-- a terminal in front of numbered ones
+numbered_word : (n at w : ℕ) (b c : Bool) (xs : List Terminal) → AreNumberedTerminals n xs
+    → AreNumberedTerminals n (cond b (t.Literal at l.Bool) (cond c (t.Literal at l.Null) (t.Keyword at w)) ∷ xs)
+numbered_word n at w true c xs h = h
+numbered_word n at w false true xs h = h
+numbered_word n at w false false xs h = h
+
+numbered_front : (kind : TokenKind) (at m n : ℕ) (xs : List Terminal) → (is_identifier kind ≡ true → m < n) → AreNumberedTerminals n xs → AreNumberedTerminals n (terminal_at kind at m ∷ xs)
+numbered_front k.Ident at m n xs i h = (i refl, h)
+numbered_front (k.Keyword w) at m n xs i h = numbered_word n at w (nat_eq w 50 || nat_eq w 51) (nat_eq w 52) xs h
+numbered_front k.Int at m n xs i h = h
+numbered_front k.Long at m n xs i h = h
+numbered_front k.Minimum at m n xs i h = h
+numbered_front k.MinimumLong at m n xs i h = h
+numbered_front k.Char at m n xs i h = h
+numbered_front k.Str at m n xs i h = h
+numbered_front (k.Punct w) at m n xs i h = h
+
+-- where the identifiers among tokens are named, those among their terminals are numbered
+pub numbered_terminals : (source : List ℕ) (names : List (List ℕ)) (tokens : List Token) → All (IsNamed source names) tokens
+    → AreNumberedTerminals (length names) (map (terminal_of source names) tokens)
+numbered_terminals source names [] h = tt
+numbered_terminals source names (x ∷ xs) h =
+    numbered_front x.kind x.start (number_of names (text_of source x)) (length names) (map (terminal_of source names) xs)
+    (λ i. number_below names (text_of source x) (All-head (IsNamed source names) x xs h i))
+    (numbered_terminals source names xs (All-tail (IsNamed source names) x xs h))

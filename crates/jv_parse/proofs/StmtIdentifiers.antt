@@ -7,7 +7,8 @@ use Rattle.jv_grammar.specs.StmtGrammar.{if_else_kind, effect_stmts, DerivesVar,
 use Rattle.jv_tree.specs.ExprTree as t
 use Rattle.jv_tree.specs.StmtTree as s
 use Rattle.jv_parse.proofs.ExprIdentifiers.{counted_ty, counted_expr, counted_init}
-use Rattle.jv_parse.specs.Identifiers.{idents_expr, idents_exprs, idents_var, idents_vars, idents_condition, idents_stmt, idents_stmt_kind, idents_stmts, idents_terminals}
+use Rattle.jv_tree.specs.Identifiers.{idents_expr, idents_exprs, idents_var, idents_vars, idents_condition, idents_stmt, idents_stmt_kind, idents_stmts}
+use Rattle.jv_parse.specs.Identifiers.{idents_terminals}
 
 -- effects have the identifiers of their expressions, and an `if` with its `else` those of its three parts
 idents_of_effects : (es : ExprTrees) → idents_stmts (effect_stmts es) ≡ idents_exprs es

@@ -15,11 +15,11 @@ use Rattle.jv_grammar.specs.StmtGrammar.{effect_stmts}
 use Rattle.jv_grammar.specs.Reader.{Reads, ◌>>=◌, rest_of}
 use Rattle.jv_grammar.specs.ExprReader.{Below}
 use Rattle.jv_grammar.specs.StmtReader.{var_by, vars_up_to, vars_by, effect_by, effects_up_to, effects_by}
-use Rattle.jv_parse.specs.declared.fault.Fault.{Fault}
-use Rattle.jv_parse.specs.View.{Fails}
+use Rattle.jv_parse_expr.specs.declared.fault.Fault.{Fault}
+use Rattle.jv_parse_expr.specs.View.{Fails}
 use Rattle.jv_parse.specs.StmtView.{effect_stmts_by}
-use Rattle.jv_parse.proofs.Faults.{fails_bind}
-use Rattle.jv_parse.proofs.ListTurns.{exprs_onto, exprs_front_none, exprs_front_push, exprs_push, exprs_nil, some_exprs}
+use Rattle.jv_parse_expr.proofs.Faults.{fails_bind}
+use Rattle.jv_parse_expr.proofs.ListTurns.{exprs_onto, exprs_front_none, exprs_front_push, exprs_push, exprs_nil, some_exprs}
 
 -- variables
 abbrev pub vars_onto : List Var → Reads (List VarTree) → Reads (List VarTree)

@@ -1,9 +1,4 @@
-pub mod FlatWords
-pub mod FlatSource
-pub mod FlatPlaces
-pub mod Laws
 pub mod Naming
-pub mod View
 pub mod Identifiers
 pub mod Parse
 pub mod StmtView

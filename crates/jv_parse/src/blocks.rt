@@ -4,14 +4,14 @@ ghost use Rattle.std.specs.Prelude.{◌≡◌, Ok, Err, length};
 ghost use Rattle.jv_tree.specs.StmtTree.{stmt_tree, stmt_trees};
 ghost use Rattle.jv_grammar.specs.ExprReader.{below};
 ghost use Rattle.jv_grammar.specs.StmtReader.{below_stmt, block_by, bstmt_by, bstmts_by, ends_block};
-ghost use Rattle.jv_parse.specs.View.{Gives};
+ghost use Rattle.jv_parse_expr.specs.View.{Gives};
 
-use crate::fault::{Fault, refused};
-use crate::marks::{BRACE_CLOSE, BRACE_OPEN, SEMICOLON};
 use crate::statements::statement;
-use crate::terminals::{behind, split};
 use crate::variables::{begins_local, local};
 use jv_grammar::Terminal;
+use jv_parse_expr::fault::{Fault, refused};
+use jv_parse_expr::marks::{BRACE_CLOSE, BRACE_OPEN, SEMICOLON};
+use jv_parse_expr::terminals::{behind, split};
 use jv_tree::Stmt;
 use std::alloc::Global;
 
@@ -28,7 +28,7 @@ fn ends_block(terminals: &[Terminal]) -> bool
 
 /// A block with where it starts, and the terminals behind it.
 #[cycle(statements)]
-#[tactic(auto, using(crate::proofs::Faults::fails_bind), unfolding(jv_grammar::specs::StmtReader::block_by))]
+#[tactic(auto, using(jv_parse_expr::proofs::Faults::fails_bind), unfolding(jv_grammar::specs::StmtReader::block_by))]
 pub(crate) fn block<'a>(
     alloc: Global,
     fuel: u32,
@@ -50,7 +50,7 @@ pub(crate) fn block<'a>(
 
 /// A statement of a block, and the terminals behind it.
 #[cycle(statements)]
-#[tactic(auto, using(crate::proofs::Faults::fails_bind), unfolding(jv_grammar::specs::StmtReader::bstmt_by))]
+#[tactic(auto, using(jv_parse_expr::proofs::Faults::fails_bind), unfolding(jv_grammar::specs::StmtReader::bstmt_by))]
 fn block_statement<'a>(
     alloc: Global,
     fuel: u32,
@@ -73,7 +73,7 @@ fn block_statement<'a>(
 ///
 /// It takes time linear in the number of terminals that it reads.
 #[cycle(statements)]
-#[tactic(auto, using(crate::proofs::Faults::fails_bind))]
+#[tactic(auto, using(jv_parse_expr::proofs::Faults::fails_bind))]
 pub(crate) fn block_statements<'a>(
     alloc: Global,
     fuel: u32,
@@ -100,7 +100,7 @@ pub(crate) fn block_statements<'a>(
 
 /// The statements of a block, nested one level deeper; `fuel` says how many levels there may be.
 #[cycle(statements)]
-#[tactic(auto, using(crate::proofs::Faults::fails_bind), unfolding(jv_grammar::specs::StmtReader::below_stmt))]
+#[tactic(auto, using(jv_parse_expr::proofs::Faults::fails_bind), unfolding(jv_grammar::specs::StmtReader::below_stmt))]
 fn nested_block_statements<'a>(
     alloc: Global,
     fuel: u32,

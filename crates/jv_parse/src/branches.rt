@@ -5,21 +5,21 @@ ghost use Rattle.jv_tree.specs.ExprTree.{expr_tree};
 ghost use Rattle.jv_tree.specs.StmtTree.{stmt_tree, branch_trees, optional_else};
 ghost use Rattle.jv_grammar.specs.ExprReader.{below};
 ghost use Rattle.jv_grammar.specs.StmtReader.{below_stmt, if_by};
-ghost use Rattle.jv_parse.specs.View.{Gives};
+ghost use Rattle.jv_parse_expr.specs.View.{Gives};
 ghost use Rattle.jv_parse.specs.StmtView.{guarded_by, branches_by};
 
 use crate::conditions::condition;
-use crate::fault::{Fault, refused};
-use crate::marks::{WORD_ELSE, WORD_IF};
 use crate::statements::nested_statement;
-use crate::terminals::behind_word;
 use jv_grammar::Terminal;
+use jv_parse_expr::fault::{Fault, refused};
+use jv_parse_expr::marks::{WORD_ELSE, WORD_IF};
+use jv_parse_expr::terminals::behind_word;
 use jv_tree::{Expr, Stmt, nodes};
 use std::alloc::Global;
 
 /// A condition in parentheses with the statement that it guards, and the terminals behind them.
 #[cycle(statements)]
-#[tactic(auto, using(crate::proofs::Faults::fails_bind))]
+#[tactic(auto, using(jv_parse_expr::proofs::Faults::fails_bind))]
 pub(crate) fn guarded<'a>(
     alloc: Global,
     fuel: u32,
@@ -36,7 +36,7 @@ pub(crate) fn guarded<'a>(
 /// The conditions of an `if` and of each `else if` with what they guard, and what stands behind the last `else`; behind
 /// the first `if`. Each `else if` is nested one level deeper.
 #[cycle(statements)]
-#[tactic(auto, using(crate::proofs::Faults::fails_bind))]
+#[tactic(auto, using(jv_parse_expr::proofs::Faults::fails_bind))]
 fn branches<'a>(
     alloc: Global,
     fuel: u32,
@@ -74,7 +74,7 @@ fn branches<'a>(
 
 /// An `if` behind its keyword, which is at `at`, and the terminals behind it.
 #[cycle(statements)]
-#[tactic(auto, using(crate::proofs::Faults::fails_bind))]
+#[tactic(auto, using(jv_parse_expr::proofs::Faults::fails_bind))]
 pub(crate) fn if_statement<'a>(
     alloc: Global,
     fuel: u32,

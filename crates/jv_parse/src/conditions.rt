@@ -6,22 +6,22 @@ ghost use Rattle.jv_tree.specs.ExprTree.{expr_tree, expr_trees};
 ghost use Rattle.jv_tree.specs.StmtTree.{stmt_trees};
 ghost use Rattle.jv_grammar.specs.ExprReader.{below};
 ghost use Rattle.jv_grammar.specs.StmtReader.{paren_by, first_by, optional_by, updates_by, for_head_by};
-ghost use Rattle.jv_parse.specs.View.{Gives};
+ghost use Rattle.jv_parse_expr.specs.View.{Gives};
 ghost use Rattle.jv_parse.specs.StmtView.{head_tree};
 
 use crate::effects::{effect_statements, effects};
-use crate::expressions::expression;
-use crate::fault::{Fault, refused};
 use crate::for_head::ForHead;
-use crate::marks::{PAREN_CLOSE, PAREN_OPEN, SEMICOLON};
-use crate::terminals::{behind, starts};
 use crate::variables::{begins_local, local};
 use jv_grammar::Terminal;
+use jv_parse_expr::expressions::expression;
+use jv_parse_expr::fault::{Fault, refused};
+use jv_parse_expr::marks::{PAREN_CLOSE, PAREN_OPEN, SEMICOLON};
+use jv_parse_expr::terminals::{behind, starts};
 use jv_tree::{Expr, Stmt};
 use std::alloc::Global;
 
 /// An expression in parentheses, and the terminals behind it.
-#[tactic(auto, using(crate::proofs::Faults::fails_bind), unfolding(jv_grammar::specs::StmtReader::paren_by))]
+#[tactic(auto, using(jv_parse_expr::proofs::Faults::fails_bind), unfolding(jv_grammar::specs::StmtReader::paren_by))]
 pub(crate) fn condition<'a>(
     alloc: Global,
     fuel: u32,
@@ -40,7 +40,7 @@ pub(crate) fn condition<'a>(
 }
 
 /// An expression or none up to a `;`, and the terminals from there on.
-#[tactic(auto, using(crate::proofs::Faults::fails_bind), unfolding(jv_grammar::specs::StmtReader::optional_by))]
+#[tactic(auto, using(jv_parse_expr::proofs::Faults::fails_bind), unfolding(jv_grammar::specs::StmtReader::optional_by))]
 pub(crate) fn optional<'a>(
     alloc: Global,
     fuel: u32,
@@ -56,7 +56,7 @@ pub(crate) fn optional<'a>(
 }
 
 /// What a `for` begins with up to its first `;`, and the terminals from there on.
-#[tactic(auto, using(crate::proofs::Faults::fails_bind), unfolding(jv_grammar::specs::StmtReader::first_by))]
+#[tactic(auto, using(jv_parse_expr::proofs::Faults::fails_bind), unfolding(jv_grammar::specs::StmtReader::first_by))]
 fn first<'a>(
     alloc: Global,
     fuel: u32,
@@ -77,7 +77,7 @@ fn first<'a>(
 }
 
 /// Effects or none up to a `)`, and the terminals from there on.
-#[tactic(auto, using(crate::proofs::Faults::fails_bind), unfolding(jv_grammar::specs::StmtReader::updates_by))]
+#[tactic(auto, using(jv_parse_expr::proofs::Faults::fails_bind), unfolding(jv_grammar::specs::StmtReader::updates_by))]
 fn updates<'a>(
     alloc: Global,
     fuel: u32,
@@ -92,7 +92,7 @@ fn updates<'a>(
 }
 
 /// The head of a `for` in its parentheses, and the terminals behind it.
-#[tactic(auto, using(crate::proofs::Faults::fails_bind), unfolding(jv_grammar::specs::StmtReader::for_head_by))]
+#[tactic(auto, using(jv_parse_expr::proofs::Faults::fails_bind), unfolding(jv_grammar::specs::StmtReader::for_head_by))]
 pub(crate) fn for_head<'a>(
     alloc: Global,
     fuel: u32,

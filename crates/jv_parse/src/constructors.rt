@@ -6,21 +6,21 @@ ghost use Rattle.jv_tree.specs.ExprTree.{expr_trees};
 ghost use Rattle.jv_tree.specs.StmtTree.{stmt_trees};
 ghost use Rattle.jv_tree.specs.DeclTree.{member_tree};
 ghost use Rattle.jv_grammar.specs.DeclReader.{call_of, inner_of, ctor_of};
-ghost use Rattle.jv_parse.specs.View.{Gives};
+ghost use Rattle.jv_parse_expr.specs.View.{Gives};
 
 use crate::blocks::block_statements;
-use crate::fault::{Fault, refused};
 use crate::first_words::ident;
-use crate::lists::arguments;
-use crate::marks::{BRACE_CLOSE, BRACE_OPEN, PAREN_OPEN, SEMICOLON, WORD_SUPER};
 use crate::parameters::parameters;
-use crate::terminals::{behind, split, starts};
 use jv_grammar::Terminal;
+use jv_parse_expr::fault::{Fault, refused};
+use jv_parse_expr::lists::arguments;
+use jv_parse_expr::marks::{BRACE_CLOSE, BRACE_OPEN, PAREN_OPEN, SEMICOLON, WORD_SUPER};
+use jv_parse_expr::terminals::{behind, split, starts};
 use jv_tree::{Expr, Member, Mods, Stmt, nodes};
 use std::alloc::Global;
 
 /// The call of `super` that a constructor begins with, or else none.
-#[tactic(auto, using(crate::proofs::Faults::fails_bind), unfolding(jv_grammar::specs::DeclReader::call_of))]
+#[tactic(auto, using(jv_parse_expr::proofs::Faults::fails_bind), unfolding(jv_grammar::specs::DeclReader::call_of))]
 fn super_call<'a>(
     alloc: Global,
     fuel: u32,
@@ -45,7 +45,7 @@ fn super_call<'a>(
 }
 
 /// What stands in the braces of a constructor: its call of `super` and its statements.
-#[tactic(auto, using(crate::proofs::Faults::fails_bind), unfolding(jv_grammar::specs::DeclReader::inner_of))]
+#[tactic(auto, using(jv_parse_expr::proofs::Faults::fails_bind), unfolding(jv_grammar::specs::DeclReader::inner_of))]
 fn inner<'a>(
     alloc: Global,
     fuel: u32,
@@ -66,7 +66,7 @@ fn inner<'a>(
 }
 
 /// A constructor behind its modifiers.
-#[tactic(auto, using(crate::proofs::Faults::fails_bind), unfolding(jv_grammar::specs::DeclReader::ctor_of))]
+#[tactic(auto, using(jv_parse_expr::proofs::Faults::fails_bind), unfolding(jv_grammar::specs::DeclReader::ctor_of))]
 pub(crate) fn constructor<'a>(
     alloc: Global,
     fuel: u32,

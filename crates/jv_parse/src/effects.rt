@@ -5,19 +5,19 @@ ghost use Rattle.jv_tree.specs.ExprTree.{expr_tree, expr_trees};
 ghost use Rattle.jv_tree.specs.StmtTree.{stmt_tree, stmt_trees};
 ghost use Rattle.jv_grammar.specs.ExprReader.{below};
 ghost use Rattle.jv_grammar.specs.StmtReader.{effect_by, effects_by, effect_stmt_by};
-ghost use Rattle.jv_parse.specs.View.{Gives};
+ghost use Rattle.jv_parse_expr.specs.View.{Gives};
 ghost use Rattle.jv_parse.specs.StmtView.{effect_stmts_by};
 
-use crate::expressions::expression;
-use crate::fault::{Fault, refused};
-use crate::marks::{COMMA, SEMICOLON};
-use crate::terminals::behind;
 use jv_grammar::{Form, Terminal};
+use jv_parse_expr::expressions::expression;
+use jv_parse_expr::fault::{Fault, refused};
+use jv_parse_expr::marks::{COMMA, SEMICOLON};
+use jv_parse_expr::terminals::behind;
 use jv_tree::{Expr, Stmt, nodes};
 use std::alloc::Global;
 
 /// An effect and the terminals behind it; where an expression is none, what stands behind it is refused.
-#[tactic(auto, using(crate::proofs::Faults::fails_bind), unfolding(jv_grammar::specs::StmtReader::effect_by))]
+#[tactic(auto, using(jv_parse_expr::proofs::Faults::fails_bind), unfolding(jv_grammar::specs::StmtReader::effect_by))]
 fn effect<'a>(
     alloc: Global,
     fuel: u32,
@@ -33,7 +33,7 @@ fn effect<'a>(
 }
 
 /// Effects with commas between them, and the terminals behind them.
-#[tactic(auto, using(crate::proofs::Faults::fails_bind))]
+#[tactic(auto, using(jv_parse_expr::proofs::Faults::fails_bind))]
 pub(crate) fn effects<'a>(
     alloc: Global,
     fuel: u32,
@@ -58,7 +58,7 @@ pub(crate) fn effects<'a>(
 }
 
 /// Effects with commas between them as statements, and the terminals behind them.
-#[tactic(auto, using(crate::proofs::Faults::fails_bind))]
+#[tactic(auto, using(jv_parse_expr::proofs::Faults::fails_bind))]
 pub(crate) fn effect_statements<'a>(
     alloc: Global,
     fuel: u32,
@@ -84,7 +84,7 @@ pub(crate) fn effect_statements<'a>(
 }
 
 /// An effect with its `;`, and the terminals behind it.
-#[tactic(auto, using(crate::proofs::Faults::fails_bind), unfolding(jv_grammar::specs::StmtReader::effect_stmt_by))]
+#[tactic(auto, using(jv_parse_expr::proofs::Faults::fails_bind), unfolding(jv_grammar::specs::StmtReader::effect_stmt_by))]
 pub(crate) fn effect_statement<'a>(
     alloc: Global,
     fuel: u32,

@@ -5,21 +5,21 @@ ghost use Rattle.jv_tree.specs.TypeTree.{type_tree};
 ghost use Rattle.jv_tree.specs.StmtTree.{var_tree};
 ghost use Rattle.jv_tree.specs.DeclTree.{member_tree};
 ghost use Rattle.jv_grammar.specs.DeclReader.{constants_of, fields_in, field_of};
-ghost use Rattle.jv_parse.specs.View.{Gives};
+ghost use Rattle.jv_parse_expr.specs.View.{Gives};
 ghost use Rattle.jv_parse.specs.DeclView.{constant_of};
 
-use crate::expressions::initializer;
-use crate::fault::{Fault, refused};
 use crate::first_words::ident;
-use crate::marks::{COMMA, EQUALS_SIGN, SEMICOLON};
-use crate::terminals::behind;
 use crate::variables::variables;
 use jv_grammar::Terminal;
+use jv_parse_expr::expressions::initializer;
+use jv_parse_expr::fault::{Fault, refused};
+use jv_parse_expr::marks::{COMMA, EQUALS_SIGN, SEMICOLON};
+use jv_parse_expr::terminals::behind;
 use jv_tree::{Member, Mods, TypeRef, Var, nodes};
 use std::alloc::Global;
 
 /// A constant of an interface: an identifier and its initializer.
-#[tactic(auto, using(crate::proofs::Faults::fails_bind))]
+#[tactic(auto, using(jv_parse_expr::proofs::Faults::fails_bind))]
 fn constant<'a>(
     alloc: Global,
     fuel: u32,
@@ -36,7 +36,7 @@ fn constant<'a>(
 }
 
 /// Constants with commas between them, at most as many as `count`.
-#[tactic(auto, using(crate::proofs::Faults::fails_bind))]
+#[tactic(auto, using(jv_parse_expr::proofs::Faults::fails_bind))]
 fn constants<'a>(
     alloc: Global,
     fuel: u32,
@@ -62,7 +62,7 @@ fn constants<'a>(
 }
 
 /// The variables of a field; those of an interface have initializers.
-#[tactic(auto, using(crate::proofs::Faults::fails_bind))]
+#[tactic(auto, using(jv_parse_expr::proofs::Faults::fails_bind))]
 fn field_variables<'a>(
     alloc: Global,
     interface: bool,
@@ -79,7 +79,7 @@ fn field_variables<'a>(
 }
 
 /// Fields behind their modifiers and their type.
-#[tactic(auto, using(crate::proofs::Faults::fails_bind), unfolding(jv_grammar::specs::DeclReader::field_of))]
+#[tactic(auto, using(jv_parse_expr::proofs::Faults::fails_bind), unfolding(jv_grammar::specs::DeclReader::field_of))]
 pub(crate) fn field<'a>(
     alloc: Global,
     interface: bool,

@@ -3,20 +3,20 @@
 ghost use Rattle.std.specs.Prelude.{◌≡◌, Ok, Err, length, map};
 ghost use Rattle.jv_tree.specs.DeclTree.{type_decl_tree, tree_of};
 ghost use Rattle.jv_grammar.specs.DeclReader.{type_of, types_of, file_of};
-ghost use Rattle.jv_parse.specs.View.{Gives};
+ghost use Rattle.jv_parse_expr.specs.View.{Gives};
 
-use crate::fault::{Fault, refused};
 use crate::imports::{imports, package};
-use crate::marks::SEMICOLON;
 use crate::modifiers::modifiers;
-use crate::terminals::behind;
 use crate::type_declarations::type_declaration;
 use jv_grammar::Terminal;
+use jv_parse_expr::fault::{Fault, refused};
+use jv_parse_expr::marks::SEMICOLON;
+use jv_parse_expr::terminals::behind;
 use jv_tree::{TypeDecl, Unit, nodes};
 use std::alloc::Global;
 
 /// A class or an interface with its modifiers, and the terminals behind it.
-#[tactic(auto, using(crate::proofs::Faults::fails_bind))]
+#[tactic(auto, using(jv_parse_expr::proofs::Faults::fails_bind))]
 fn top_type<'a>(
     alloc: Global,
     fuel: u32,
@@ -32,7 +32,7 @@ fn top_type<'a>(
 }
 
 /// The types of a file up to its end; at most as many types and `;` as `count`.
-#[tactic(auto, using(crate::proofs::Faults::fails_bind))]
+#[tactic(auto, using(jv_parse_expr::proofs::Faults::fails_bind))]
 fn types(
     alloc: Global,
     fuel: u32,
@@ -66,7 +66,7 @@ fn types(
 
 /// A file in which types and what is in them nest at most `fuel` deep: all terminals of it are taken. Its time grows with
 /// their number.
-#[tactic(auto, using(crate::proofs::Faults::fails_bind), unfolding(jv_grammar::specs::DeclReader::file_of))]
+#[tactic(auto, using(jv_parse_expr::proofs::Faults::fails_bind), unfolding(jv_grammar::specs::DeclReader::file_of))]
 pub(crate) fn file(alloc: Global, fuel: u32, terminals: &[Terminal]) -> Result<Unit, Fault>
     ensures { Gives tree_of result (file_of fuel terminals.now) }
 {

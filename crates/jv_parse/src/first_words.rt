@@ -2,12 +2,12 @@
 
 ghost use Rattle.std.specs.Prelude.{◌≡◌, Ok, Err};
 ghost use Rattle.jv_grammar.specs.DeclReader.{begins_type, calls, ident_of};
-ghost use Rattle.jv_parse.specs.View.{Gives};
+ghost use Rattle.jv_parse_expr.specs.View.{Gives};
 
-use crate::fault::{Fault, refused};
-use crate::marks::{PAREN_OPEN, WORD_CLASS, WORD_INTERFACE};
-use crate::terminals::{split, starts, starts_word};
 use jv_grammar::Terminal;
+use jv_parse_expr::fault::{Fault, refused};
+use jv_parse_expr::marks::{PAREN_OPEN, WORD_CLASS, WORD_INTERFACE};
+use jv_parse_expr::terminals::{split, starts, starts_word};
 use jv_tree::Ident;
 
 /// An identifier and the terminals behind it.

@@ -5,18 +5,18 @@ ghost use Rattle.std.specs.Option.{option_map};
 ghost use Rattle.jv_tree.specs.TypeTree.{ids_of};
 ghost use Rattle.jv_tree.specs.DeclTree.{import_tree};
 ghost use Rattle.jv_grammar.specs.DeclReader.{package_of, path_of, import_of, imports_of};
-ghost use Rattle.jv_parse.specs.View.{Gives};
+ghost use Rattle.jv_parse_expr.specs.View.{Gives};
 
-use crate::fault::{Fault, refused};
-use crate::marks::{DOT, SEMICOLON, STAR, WORD_IMPORT, WORD_PACKAGE};
-use crate::names::name;
-use crate::terminals::{behind, behind_word, identifier};
 use jv_grammar::Terminal;
+use jv_parse_expr::fault::{Fault, refused};
+use jv_parse_expr::marks::{DOT, SEMICOLON, STAR, WORD_IMPORT, WORD_PACKAGE};
+use jv_parse_expr::names::name;
+use jv_parse_expr::terminals::{behind, behind_word, identifier};
 use jv_tree::{Import, Name, nodes};
 use std::alloc::Global;
 
 /// The package of a file, or else none.
-#[tactic(auto, using(crate::proofs::Faults::fails_bind), unfolding(jv_grammar::specs::DeclReader::package_of))]
+#[tactic(auto, using(jv_parse_expr::proofs::Faults::fails_bind), unfolding(jv_grammar::specs::DeclReader::package_of))]
 pub(crate) fn package<'a>(
     alloc: Global,
     terminals: &'a [Terminal],
@@ -34,7 +34,7 @@ pub(crate) fn package<'a>(
 }
 
 /// The name of an import, and whether `.*` stands behind it; at most as many identifiers as `count`.
-#[tactic(auto, using(crate::proofs::Faults::fails_bind))]
+#[tactic(auto, using(jv_parse_expr::proofs::Faults::fails_bind))]
 fn path<'a>(
     alloc: Global,
     count: usize,
@@ -61,7 +61,7 @@ fn path<'a>(
 }
 
 /// An import behind its keyword.
-#[tactic(auto, using(crate::proofs::Faults::fails_bind), unfolding(jv_grammar::specs::DeclReader::import_of))]
+#[tactic(auto, using(jv_parse_expr::proofs::Faults::fails_bind), unfolding(jv_grammar::specs::DeclReader::import_of))]
 fn import<'a>(alloc: Global, terminals: &'a [Terminal]) -> Result<(Import, &'a [Terminal]), Fault>
     ensures { Gives (λ r. (import_tree r.0, r.1.now)) result (import_of terminals.now) }
 {
@@ -73,7 +73,7 @@ fn import<'a>(alloc: Global, terminals: &'a [Terminal]) -> Result<(Import, &'a [
 }
 
 /// Imports, fewer than `count`.
-#[tactic(auto, using(crate::proofs::Faults::fails_bind))]
+#[tactic(auto, using(jv_parse_expr::proofs::Faults::fails_bind))]
 pub(crate) fn imports<'a>(
     alloc: Global,
     count: usize,

@@ -1,16 +1,5 @@
-//! What holds of all sources.
-ghost use Rattle.jv_parse.specs.Identifiers.{IdentifiersAreCounted, IdentifiersAreTerminals};
-ghost use Rattle.jv_parse.specs.Laws.{DeclarationsAreOne, NamesStandAtClasses};
-
-/// A source is written by one list of declarations at most.
-pub fn declarations_are_one()
-    ensures { DeclarationsAreOne }
-{}
-
-/// The ranges of the classes of a source are those of their names.
-pub fn names_stand_at_classes()
-    ensures { NamesStandAtClasses }
-{}
+//! What holds of all trees that derive.
+ghost use Rattle.jv_parse.specs.Identifiers.{IdentifiersAreCounted, IdentifiersAreNumbered, IdentifiersAreTerminals};
 
 /// A tree that derives from terminals has as many identifiers as stand among them: none is lost, and none is added.
 pub fn identifiers_are_counted()
@@ -20,4 +9,9 @@ pub fn identifiers_are_counted()
 /// So it has at most as many identifiers as there are terminals.
 pub fn identifiers_are_terminals()
     ensures { IdentifiersAreTerminals }
+{}
+
+/// Where the identifiers among terminals have numbers of names, so have those of a tree that derives from them.
+pub fn identifiers_are_numbered()
+    ensures { IdentifiersAreNumbered }
 {}

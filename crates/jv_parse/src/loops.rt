@@ -4,21 +4,21 @@ ghost use Rattle.std.specs.Prelude.{◌≡◌, Ok, Err};
 ghost use Rattle.jv_tree.specs.StmtTree.{stmt_tree};
 ghost use Rattle.jv_grammar.specs.ExprReader.{below};
 ghost use Rattle.jv_grammar.specs.StmtReader.{below_stmt, while_by, do_by, for_by};
-ghost use Rattle.jv_parse.specs.View.{Gives};
+ghost use Rattle.jv_parse_expr.specs.View.{Gives};
 
 use crate::conditions::{condition, for_head};
-use crate::fault::{Fault, refused};
 use crate::for_head::ForHead;
-use crate::marks::{SEMICOLON, WORD_WHILE};
 use crate::statements::nested_statement;
-use crate::terminals::{behind, behind_word};
 use jv_grammar::Terminal;
+use jv_parse_expr::fault::{Fault, refused};
+use jv_parse_expr::marks::{SEMICOLON, WORD_WHILE};
+use jv_parse_expr::terminals::{behind, behind_word};
 use jv_tree::{Stmt, nodes};
 use std::alloc::Global;
 
 /// A `while` loop behind its keyword, which is at `at`, and the terminals behind it.
 #[cycle(statements)]
-#[tactic(auto, using(crate::proofs::Faults::fails_bind), unfolding(jv_grammar::specs::StmtReader::while_by))]
+#[tactic(auto, using(jv_parse_expr::proofs::Faults::fails_bind), unfolding(jv_grammar::specs::StmtReader::while_by))]
 pub(crate) fn while_statement<'a>(
     alloc: Global,
     fuel: u32,
@@ -35,7 +35,7 @@ pub(crate) fn while_statement<'a>(
 
 /// A `do` loop behind its keyword, which is at `at`, and the terminals behind it.
 #[cycle(statements)]
-#[tactic(auto, using(crate::proofs::Faults::fails_bind), unfolding(jv_grammar::specs::StmtReader::do_by))]
+#[tactic(auto, using(jv_parse_expr::proofs::Faults::fails_bind), unfolding(jv_grammar::specs::StmtReader::do_by))]
 pub(crate) fn do_statement<'a>(
     alloc: Global,
     fuel: u32,
@@ -58,7 +58,7 @@ pub(crate) fn do_statement<'a>(
 
 /// A `for` loop behind its keyword, which is at `at`, and the terminals behind it.
 #[cycle(statements)]
-#[tactic(auto, using(crate::proofs::Faults::fails_bind), unfolding(jv_grammar::specs::StmtReader::for_by))]
+#[tactic(auto, using(jv_parse_expr::proofs::Faults::fails_bind), unfolding(jv_grammar::specs::StmtReader::for_by))]
 pub(crate) fn for_statement<'a>(
     alloc: Global,
     fuel: u32,

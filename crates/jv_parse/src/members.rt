@@ -3,23 +3,23 @@
 ghost use Rattle.std.specs.Prelude.{◌≡◌, Ok, Err, length};
 ghost use Rattle.jv_tree.specs.DeclTree.{member_tree, member_trees};
 ghost use Rattle.jv_grammar.specs.DeclReader.{below_type, behind_mods, member_of, members_of, braced_of};
-ghost use Rattle.jv_parse.specs.View.{Gives};
+ghost use Rattle.jv_parse_expr.specs.View.{Gives};
 
 use crate::constructors::constructor;
-use crate::fault::{Fault, refused};
 use crate::first_words::{begins_type, calls};
-use crate::marks::{BRACE_CLOSE, BRACE_OPEN, SEMICOLON};
 use crate::methods::plain_member;
 use crate::modifiers::modifiers;
-use crate::terminals::behind;
 use crate::type_declarations::nested_type;
 use jv_grammar::Terminal;
+use jv_parse_expr::fault::{Fault, refused};
+use jv_parse_expr::marks::{BRACE_CLOSE, BRACE_OPEN, SEMICOLON};
+use jv_parse_expr::terminals::behind;
 use jv_tree::{Member, Mods, nodes};
 use std::alloc::Global;
 
 /// A member behind its modifiers; an interface has no constructors.
 #[cycle(declarations)]
-#[tactic(auto, using(crate::proofs::Faults::fails_bind), unfolding(jv_grammar::specs::DeclReader::behind_mods))]
+#[tactic(auto, using(jv_parse_expr::proofs::Faults::fails_bind), unfolding(jv_grammar::specs::DeclReader::behind_mods))]
 fn behind_modifiers<'a>(
     alloc: Global,
     interface: bool,
@@ -42,7 +42,7 @@ fn behind_modifiers<'a>(
 
 /// A member.
 #[cycle(declarations)]
-#[tactic(auto, using(crate::proofs::Faults::fails_bind))]
+#[tactic(auto, using(jv_parse_expr::proofs::Faults::fails_bind))]
 fn member<'a>(
     alloc: Global,
     interface: bool,
@@ -61,7 +61,7 @@ fn member<'a>(
 
 /// Members up to a `}`, which is taken with them; at most as many members and `;` as `count`.
 #[cycle(declarations)]
-#[tactic(auto, using(crate::proofs::Faults::fails_bind))]
+#[tactic(auto, using(jv_parse_expr::proofs::Faults::fails_bind))]
 fn members<'a>(
     alloc: Global,
     interface: bool,
@@ -94,7 +94,7 @@ fn members<'a>(
 
 /// The members of a class or an interface in braces.
 #[cycle(declarations)]
-#[tactic(auto, using(crate::proofs::Faults::fails_bind), unfolding(jv_grammar::specs::DeclReader::braced_of))]
+#[tactic(auto, using(jv_parse_expr::proofs::Faults::fails_bind), unfolding(jv_grammar::specs::DeclReader::braced_of))]
 pub(crate) fn braced<'a>(
     alloc: Global,
     interface: bool,

@@ -6,22 +6,22 @@ ghost use Rattle.jv_tree.specs.TypeTree.{type_tree};
 ghost use Rattle.jv_tree.specs.StmtTree.{stmt_trees};
 ghost use Rattle.jv_tree.specs.DeclTree.{member_tree};
 ghost use Rattle.jv_grammar.specs.DeclReader.{body_in, method_of, typed_of, plain_of};
-ghost use Rattle.jv_parse.specs.View.{Gives};
+ghost use Rattle.jv_parse_expr.specs.View.{Gives};
 
 use crate::blocks::block;
-use crate::fault::{Fault, refused};
 use crate::fields::field;
 use crate::first_words::{calls, ident};
-use crate::marks::{SEMICOLON, WORD_VOID};
 use crate::parameters::parameters;
-use crate::terminals::{behind, split};
-use crate::types::ty;
 use jv_grammar::Terminal;
+use jv_parse_expr::fault::{Fault, refused};
+use jv_parse_expr::marks::{SEMICOLON, WORD_VOID};
+use jv_parse_expr::terminals::{behind, split};
+use jv_parse_expr::types::ty;
 use jv_tree::{Base, Member, Mods, Stmt, TypeRef, nodes};
 use std::alloc::Global;
 
 /// What stands behind the parameters of a method; in an interface it is a `;`.
-#[tactic(auto, using(crate::proofs::Faults::fails_bind))]
+#[tactic(auto, using(jv_parse_expr::proofs::Faults::fails_bind))]
 fn body<'a>(
     alloc: Global,
     interface: bool,
@@ -45,7 +45,7 @@ fn body<'a>(
 }
 
 /// A method behind its modifiers and its result.
-#[tactic(auto, using(crate::proofs::Faults::fails_bind), unfolding(jv_grammar::specs::DeclReader::method_of))]
+#[tactic(auto, using(jv_parse_expr::proofs::Faults::fails_bind), unfolding(jv_grammar::specs::DeclReader::method_of))]
 fn method<'a>(
     alloc: Global,
     interface: bool,
@@ -65,7 +65,7 @@ fn method<'a>(
 }
 
 /// Fields or a method with a type, behind their modifiers.
-#[tactic(auto, using(crate::proofs::Faults::fails_bind), unfolding(jv_grammar::specs::DeclReader::typed_of))]
+#[tactic(auto, using(jv_parse_expr::proofs::Faults::fails_bind), unfolding(jv_grammar::specs::DeclReader::typed_of))]
 fn typed<'a>(
     alloc: Global,
     interface: bool,
@@ -84,7 +84,7 @@ fn typed<'a>(
 }
 
 /// Fields or a method behind their modifiers.
-#[tactic(auto, using(crate::proofs::Faults::fails_bind), unfolding(jv_grammar::specs::DeclReader::plain_of))]
+#[tactic(auto, using(jv_parse_expr::proofs::Faults::fails_bind), unfolding(jv_grammar::specs::DeclReader::plain_of))]
 pub(crate) fn plain_member<'a>(
     alloc: Global,
     interface: bool,

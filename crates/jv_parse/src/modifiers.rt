@@ -4,15 +4,15 @@ ghost use Rattle.std.specs.Prelude.{◌≡◌, ◌<◌, [], ◌∷◌, Ok, Err, 
 ghost use Rattle.std.specs.List.{list_any};
 ghost use Rattle.jv_grammar.specs.Marks.{modifiers};
 ghost use Rattle.jv_grammar.specs.DeclReader.{mods_of};
-ghost use Rattle.jv_parse.specs.View.{Gives};
+ghost use Rattle.jv_parse_expr.specs.View.{Gives};
 ghost use Rattle.jv_parse.specs.DeclView.{modifiers_of};
 
-use crate::fault::Fault;
-use crate::marks::{
+use jv_grammar::Terminal;
+use jv_parse_expr::fault::Fault;
+use jv_parse_expr::marks::{
     WORD_ABSTRACT, WORD_FINAL, WORD_PRIVATE, WORD_PROTECTED, WORD_PUBLIC, WORD_STATIC,
 };
-use crate::terminals::split;
-use jv_grammar::Terminal;
+use jv_parse_expr::terminals::split;
 use jv_tree::Mods;
 use std::alloc::Global;
 

@@ -28,6 +28,7 @@ pub(crate) fn name_tokens(
     requires placed { All (IsPlaced source.now) tokens.now }
     requires room { length names.old + length tokens.now < u32.MAX }
     ensures named { OnOk result (names.new ≡ names_with source.now names.old tokens.now) }
+    ensures known { OnOk result (All (IsNamed source.now names.new) tokens.now) }
     ensures terminals { IfOk result (λ v. v.items ≡ map (terminal_of source.now names.new) tokens.now) }
     ensures err { OnErr result ((front back : List TokenOf) × (tokens.now ≡ front ++ back) × (names.new ≡ names_with source.now names.old front)) }
 {

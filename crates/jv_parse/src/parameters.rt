@@ -3,19 +3,19 @@
 ghost use Rattle.std.specs.Prelude.{◌≡◌, Ok, Err, length, map};
 ghost use Rattle.jv_tree.specs.DeclTree.{param_tree};
 ghost use Rattle.jv_grammar.specs.DeclReader.{named_of, param_of, some_params_of, params_of};
-ghost use Rattle.jv_parse.specs.View.{Gives};
+ghost use Rattle.jv_parse_expr.specs.View.{Gives};
 
-use crate::fault::{Fault, refused};
 use crate::first_words::ident;
-use crate::marks::{COMMA, PAREN_CLOSE, PAREN_OPEN, WORD_FINAL};
-use crate::terminals::{behind, behind_word};
-use crate::types::ty;
 use jv_grammar::Terminal;
+use jv_parse_expr::fault::{Fault, refused};
+use jv_parse_expr::marks::{COMMA, PAREN_CLOSE, PAREN_OPEN, WORD_FINAL};
+use jv_parse_expr::terminals::{behind, behind_word};
+use jv_parse_expr::types::ty;
 use jv_tree::{Param, nodes};
 use std::alloc::Global;
 
 /// A parameter behind its `final`, or without one.
-#[tactic(auto, using(crate::proofs::Faults::fails_bind))]
+#[tactic(auto, using(jv_parse_expr::proofs::Faults::fails_bind))]
 fn named<'a>(
     alloc: Global,
     is_final: bool,
@@ -29,7 +29,7 @@ fn named<'a>(
 }
 
 /// A parameter.
-#[tactic(auto, using(crate::proofs::Faults::fails_bind), unfolding(jv_grammar::specs::DeclReader::param_of))]
+#[tactic(auto, using(jv_parse_expr::proofs::Faults::fails_bind), unfolding(jv_grammar::specs::DeclReader::param_of))]
 fn parameter<'a>(alloc: Global, terminals: &'a [Terminal]) -> Result<(Param, &'a [Terminal]), Fault>
     ensures { Gives (λ r. (param_tree r.0, r.1.now)) result (param_of terminals.now) }
 {
@@ -40,7 +40,7 @@ fn parameter<'a>(alloc: Global, terminals: &'a [Terminal]) -> Result<(Param, &'a
 }
 
 /// Parameters with commas between them, at most as many as `count`.
-#[tactic(auto, using(crate::proofs::Faults::fails_bind))]
+#[tactic(auto, using(jv_parse_expr::proofs::Faults::fails_bind))]
 fn some_parameters<'a>(
     alloc: Global,
     count: usize,
@@ -65,7 +65,7 @@ fn some_parameters<'a>(
 }
 
 /// Parameters in parentheses.
-#[tactic(auto, using(crate::proofs::Faults::fails_bind), unfolding(jv_grammar::specs::DeclReader::params_of))]
+#[tactic(auto, using(jv_parse_expr::proofs::Faults::fails_bind), unfolding(jv_grammar::specs::DeclReader::params_of))]
 pub(crate) fn parameters<'a>(
     alloc: Global,
     terminals: &'a [Terminal],

@@ -3,28 +3,30 @@
 ghost use Rattle.std.specs.Prelude.{◌≡◌, ℕ, ◌+◌, ◌<◌, ◌≤◌, ◌↔◌, ◌^◌, All, length, IfOk, Err};
 ghost use Rattle.jv_lex.specs.Source.{IsPlaced};
 ghost use Rattle.jv_tree.specs.DeclTree.{tree_of};
+ghost use Rattle.jv_tree.specs.Identifiers.{idents_unit};
+ghost use Rattle.jv_tree.specs.Numbered.{IsNumbered};
 ghost use Rattle.jv_grammar.specs.Load.{IsFirstDeep};
 ghost use Rattle.jv_parse.specs.declared.parse_fault.ParseFault.TheVariants.{TooDeep, NotInGrammar};
-ghost use Rattle.jv_parse.specs.Identifiers.{idents_unit};
 ghost use Rattle.jv_parse.specs.Naming.{names_with};
 ghost use Rattle.jv_parse.specs.Parse.{terminals_of, IsTreeOf, HasNoTree, Says, IsAnswered, AddsNames};
 
-use crate::fault::Fault;
 use crate::files::file;
 use crate::naming::name_tokens;
 use crate::parse_fault::ParseFault;
 use jv_grammar::laws::{readers_find_trees, readers_need_few_levels, shallow_files_derive_once};
 use jv_grammar::{Terminal, first_deep};
 use jv_lex::Token;
+use jv_parse_expr::fault::Fault;
 use jv_tree::{Names, Unit};
 use std::alloc::Global;
 
-// How deep the tree of terminals may nest whose load stays below 201.
+// How many levels the readers need for terminals whose load stays below 201. Fields, calls and indexes behind one
+// another are no levels.
 const LEVELS: u32 = 400;
 
-/// How many bytes of stack a thread needs at most that calls `parse`, with room to spare: 64 MiB. Tested with the deepest
-/// sources of each kind, not proved.
-pub const PARSE_STACK: usize = 1 << 26;
+/// How many bytes of stack a thread needs at most that calls `parse` and lets go of the tree, with room to spare: 8 MiB.
+/// Tested with the deepest sources of each kind and with the longest spines, not proved.
+pub const PARSE_STACK: usize = 1 << 23;
 
 /// The tree of a source of these tokens, as `lex` gives them (JLS 7.3, in the profile of `docs/JAVA-PROFILE.md`).
 ///
@@ -34,8 +36,11 @@ pub const PARSE_STACK: usize = 1 << 26;
 ///
 /// The texts of identifiers become names. The names that were there keep their numbers, with or without a fault, and
 /// each new one is the text of an identifier of the source. Without a fault of memory all its identifiers are named.
+/// The numbers in the tree are those of names.
 ///
-/// It takes time and memory linear in the source, as is expected of a hash, and nests at most 400 levels deep.
+/// It takes time and memory linear in the source, as is expected of a hash. Its readers nest at most 400 levels deep.
+/// Fields, calls and indexes behind one another are no levels, and are as many as the source has room for: they are read,
+/// and let go, in a loop.
 pub fn parse(
     alloc: Global,
     source: &str,
@@ -50,6 +55,7 @@ pub fn parse(
     ensures not_in_grammar { IsAnswered result → (i : ℕ) →
         (result ≡ Err (NotInGrammar i)) ↔ ((i ≡ 0) × HasNoTree (terminals_of source.now names.new tokens.now)) }
     ensures count { IfOk result (λ u. idents_unit (tree_of u) ≤ length tokens.now) }
+    ensures numbered { IfOk result (λ u. IsNumbered (length names.new) (tree_of u)) }
     ensures named { IsAnswered result → names.new ≡ names_with source.now names.old tokens.now }
     ensures names { AddsNames source.now tokens.now names.old names.new }
 {

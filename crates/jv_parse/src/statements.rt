@@ -6,25 +6,25 @@ ghost use Rattle.jv_tree.specs.StmtTree.{StmtTree, stmt_tree};
 ghost use Rattle.jv_grammar.specs.Reader.{closed};
 ghost use Rattle.jv_grammar.specs.ExprReader.{below};
 ghost use Rattle.jv_grammar.specs.StmtReader.{below_stmt, return_by, stmt_by};
-ghost use Rattle.jv_parse.specs.View.{Gives};
+ghost use Rattle.jv_parse_expr.specs.View.{Gives};
 
 use crate::blocks::block;
 use crate::branches::if_statement;
 use crate::conditions::optional;
 use crate::effects::effect_statement;
-use crate::fault::{Fault, refused};
 use crate::loops::{do_statement, for_statement, while_statement};
-use crate::marks::{
+use jv_grammar::Terminal;
+use jv_parse_expr::fault::{Fault, refused};
+use jv_parse_expr::marks::{
     BRACE_OPEN, SEMICOLON, WORD_BREAK, WORD_CONTINUE, WORD_DO, WORD_FOR, WORD_IF, WORD_RETURN,
     WORD_WHILE,
 };
-use crate::terminals::{behind, split};
-use jv_grammar::Terminal;
+use jv_parse_expr::terminals::{behind, split};
 use jv_tree::{Stmt, nodes};
 use std::alloc::Global;
 
 /// A `return` behind its keyword, which is at `at`, and the terminals behind it.
-#[tactic(auto, using(crate::proofs::Faults::fails_bind), unfolding(jv_grammar::specs::StmtReader::return_by))]
+#[tactic(auto, using(jv_parse_expr::proofs::Faults::fails_bind), unfolding(jv_grammar::specs::StmtReader::return_by))]
 fn return_statement<'a>(
     alloc: Global,
     fuel: u32,
@@ -41,7 +41,7 @@ fn return_statement<'a>(
 }
 
 /// A statement whose `;` stands first, and the terminals behind it.
-#[tactic(auto, using(crate::proofs::Faults::fails_bind))]
+#[tactic(auto, using(jv_parse_expr::proofs::Faults::fails_bind))]
 fn ended(statement: Stmt, terminals: &[Terminal]) -> Result<(Stmt, &[Terminal]), Fault>
     ensures { Gives (λ r. (stmt_tree r.0, r.1.now)) result (closed SEMICOLON (stmt_tree statement) terminals.now) }
 {
@@ -53,7 +53,7 @@ fn ended(statement: Stmt, terminals: &[Terminal]) -> Result<(Stmt, &[Terminal]),
 
 /// A statement, nested at most `fuel` deep, and the terminals behind it.
 #[cycle(statements)]
-#[tactic(auto, using(crate::proofs::Faults::fails_bind), unfolding(jv_grammar::specs::StmtReader::stmt_by, jv_grammar::specs::StmtReader::word_by))]
+#[tactic(auto, using(jv_parse_expr::proofs::Faults::fails_bind), unfolding(jv_grammar::specs::StmtReader::stmt_by, jv_grammar::specs::StmtReader::word_by))]
 pub(crate) fn statement<'a>(
     alloc: Global,
     fuel: u32,
@@ -85,7 +85,7 @@ pub(crate) fn statement<'a>(
 
 /// A statement, nested one level deeper; `fuel` says how many levels there may be.
 #[cycle(statements)]
-#[tactic(auto, using(crate::proofs::Faults::fails_bind), unfolding(jv_grammar::specs::StmtReader::below_stmt))]
+#[tactic(auto, using(jv_parse_expr::proofs::Faults::fails_bind), unfolding(jv_grammar::specs::StmtReader::below_stmt))]
 pub(crate) fn nested_statement<'a>(
     alloc: Global,
     fuel: u32,

@@ -3,18 +3,18 @@
 ghost use Rattle.std.specs.Prelude.{◌≡◌, Ok, Err, length, map};
 ghost use Rattle.jv_tree.specs.TypeTree.{ids_of};
 ghost use Rattle.jv_grammar.specs.DeclReader.{names_of, parent_of, headed_of};
-ghost use Rattle.jv_parse.specs.View.{Gives};
+ghost use Rattle.jv_parse_expr.specs.View.{Gives};
 
-use crate::fault::{Fault, refused};
-use crate::marks::{COMMA, WORD_EXTENDS};
-use crate::names::name;
-use crate::terminals::{behind, behind_word};
 use jv_grammar::Terminal;
+use jv_parse_expr::fault::{Fault, refused};
+use jv_parse_expr::marks::{COMMA, WORD_EXTENDS};
+use jv_parse_expr::names::name;
+use jv_parse_expr::terminals::{behind, behind_word};
 use jv_tree::Name;
 use std::alloc::Global;
 
 /// Names with commas between them, at most as many as `count`.
-#[tactic(auto, using(crate::proofs::Faults::fails_bind))]
+#[tactic(auto, using(jv_parse_expr::proofs::Faults::fails_bind))]
 fn names<'a>(
     alloc: Global,
     count: usize,
@@ -39,7 +39,7 @@ fn names<'a>(
 }
 
 /// The name behind `extends`, or else none.
-#[tactic(auto, using(crate::proofs::Faults::fails_bind), unfolding(jv_grammar::specs::DeclReader::parent_of))]
+#[tactic(auto, using(jv_parse_expr::proofs::Faults::fails_bind), unfolding(jv_grammar::specs::DeclReader::parent_of))]
 pub(crate) fn parent<'a>(
     alloc: Global,
     terminals: &'a [Terminal],
@@ -56,7 +56,7 @@ pub(crate) fn parent<'a>(
 }
 
 /// The names behind the keyword, or else none.
-#[tactic(auto, using(crate::proofs::Faults::fails_bind), unfolding(jv_grammar::specs::DeclReader::headed_of))]
+#[tactic(auto, using(jv_parse_expr::proofs::Faults::fails_bind), unfolding(jv_grammar::specs::DeclReader::headed_of))]
 pub(crate) fn headed_names<'a>(
     alloc: Global,
     word: u8,

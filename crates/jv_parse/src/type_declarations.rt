@@ -3,21 +3,21 @@
 ghost use Rattle.std.specs.Prelude.{◌≡◌, Ok, Err};
 ghost use Rattle.jv_tree.specs.DeclTree.{type_decl_tree};
 ghost use Rattle.jv_grammar.specs.DeclReader.{below_type, class_of, interface_of, decl_of};
-ghost use Rattle.jv_parse.specs.View.{Gives};
+ghost use Rattle.jv_parse_expr.specs.View.{Gives};
 
-use crate::fault::{Fault, refused};
 use crate::first_words::ident;
-use crate::marks::{WORD_CLASS, WORD_EXTENDS, WORD_IMPLEMENTS, WORD_INTERFACE};
 use crate::members::braced;
 use crate::supertypes::{headed_names, parent};
-use crate::terminals::behind_word;
 use jv_grammar::Terminal;
+use jv_parse_expr::fault::{Fault, refused};
+use jv_parse_expr::marks::{WORD_CLASS, WORD_EXTENDS, WORD_IMPLEMENTS, WORD_INTERFACE};
+use jv_parse_expr::terminals::behind_word;
 use jv_tree::{Mods, TypeDecl, nodes};
 use std::alloc::Global;
 
 /// A class behind its keyword.
 #[cycle(declarations)]
-#[tactic(auto, using(crate::proofs::Faults::fails_bind), unfolding(jv_grammar::specs::DeclReader::class_of))]
+#[tactic(auto, using(jv_parse_expr::proofs::Faults::fails_bind), unfolding(jv_grammar::specs::DeclReader::class_of))]
 fn class<'a>(
     alloc: Global,
     fuel: u32,
@@ -39,7 +39,7 @@ fn class<'a>(
 
 /// An interface behind its keyword.
 #[cycle(declarations)]
-#[tactic(auto, using(crate::proofs::Faults::fails_bind), unfolding(jv_grammar::specs::DeclReader::interface_of))]
+#[tactic(auto, using(jv_parse_expr::proofs::Faults::fails_bind), unfolding(jv_grammar::specs::DeclReader::interface_of))]
 fn interface<'a>(
     alloc: Global,
     fuel: u32,
@@ -60,7 +60,7 @@ fn interface<'a>(
 
 /// A class or an interface behind its modifiers.
 #[cycle(declarations)]
-#[tactic(auto, using(crate::proofs::Faults::fails_bind), unfolding(jv_grammar::specs::DeclReader::decl_of))]
+#[tactic(auto, using(jv_parse_expr::proofs::Faults::fails_bind), unfolding(jv_grammar::specs::DeclReader::decl_of))]
 pub(crate) fn type_declaration<'a>(
     alloc: Global,
     fuel: u32,
@@ -81,7 +81,7 @@ pub(crate) fn type_declaration<'a>(
 
 /// A class or an interface that is a member, behind its modifiers.
 #[cycle(declarations)]
-#[tactic(auto, using(crate::proofs::Faults::fails_bind), unfolding(jv_grammar::specs::DeclReader::below_type))]
+#[tactic(auto, using(jv_parse_expr::proofs::Faults::fails_bind), unfolding(jv_grammar::specs::DeclReader::below_type))]
 pub(crate) fn nested_type<'a>(
     alloc: Global,
     fuel: u32,

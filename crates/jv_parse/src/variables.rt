@@ -4,19 +4,19 @@ ghost use Rattle.std.specs.Prelude.{◌≡◌, Ok, Err, length};
 ghost use Rattle.jv_tree.specs.StmtTree.{stmt_tree, var_tree, var_trees};
 ghost use Rattle.jv_grammar.specs.ExprReader.{below};
 ghost use Rattle.jv_grammar.specs.StmtReader.{var_by, vars_by, local_by, begins_local};
-ghost use Rattle.jv_parse.specs.View.{Gives};
+ghost use Rattle.jv_parse_expr.specs.View.{Gives};
 
-use crate::expressions::initializer;
-use crate::fault::{Fault, refused};
-use crate::marks::{COMMA, EQUALS_SIGN, WORD_FINAL};
-use crate::terminals::{behind, identifier, split, starts_word};
-use crate::types::{declares, ty};
 use jv_grammar::Terminal;
+use jv_parse_expr::expressions::initializer;
+use jv_parse_expr::fault::{Fault, refused};
+use jv_parse_expr::marks::{COMMA, EQUALS_SIGN, WORD_FINAL};
+use jv_parse_expr::terminals::{behind, identifier, split, starts_word};
+use jv_parse_expr::types::{declares, ty};
 use jv_tree::{Stmt, Var, nodes};
 use std::alloc::Global;
 
 /// A variable and the terminals behind it.
-#[tactic(auto, using(crate::proofs::Faults::fails_bind), unfolding(jv_grammar::specs::StmtReader::var_by))]
+#[tactic(auto, using(jv_parse_expr::proofs::Faults::fails_bind), unfolding(jv_grammar::specs::StmtReader::var_by))]
 fn variable<'a>(
     alloc: Global,
     fuel: u32,
@@ -35,7 +35,7 @@ fn variable<'a>(
 }
 
 /// Variables with commas between them, and the terminals behind them.
-#[tactic(auto, using(crate::proofs::Faults::fails_bind))]
+#[tactic(auto, using(jv_parse_expr::proofs::Faults::fails_bind))]
 pub(crate) fn variables<'a>(
     alloc: Global,
     fuel: u32,
@@ -67,7 +67,7 @@ pub(crate) fn begins_local(terminals: &[Terminal]) -> bool
 }
 
 /// A declaration of local variables up to its `;`, and the terminals from there on.
-#[tactic(auto, using(crate::proofs::Faults::fails_bind), unfolding(jv_grammar::specs::StmtReader::local_by, jv_grammar::specs::StmtReader::final_by, jv_grammar::specs::StmtReader::plain_by))]
+#[tactic(auto, using(jv_parse_expr::proofs::Faults::fails_bind), unfolding(jv_grammar::specs::StmtReader::local_by, jv_grammar::specs::StmtReader::final_by, jv_grammar::specs::StmtReader::plain_by))]
 pub(crate) fn local<'a>(
     alloc: Global,
     fuel: u32,

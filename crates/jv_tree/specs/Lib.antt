@@ -4,3 +4,6 @@ pub mod ExprTree
 pub mod StmtTree
 pub mod DeclTree
 pub mod Shaped
+pub mod Identifiers
+pub mod Numbered
+pub mod Spine

@@ -23,8 +23,7 @@ pub struct Expr {
     pub kind: ExprKind,
 }
 
-/// What an expression is.
-#[derive(Drop)]
+/// What an expression is. To let it go takes no more stack where a field, a call or an index stands behind it.
 #[cycle(expr)]
 pub enum ExprKind {
     Int,
@@ -67,4 +66,39 @@ pub enum Target {
 pub enum Operand {
     Expr(Expr),
     Of(TypeRef),
+}
+
+// Fields, calls and indexes nest as deep as a source is long, so what they stand behind is let go in a loop.
+impl Drop for ExprKind {
+    #[cycle(release)]
+    fn drop(mut self) {
+        loop {
+            match self {
+                ExprKind::Field(object, _) => self = Box::into_inner(object).kind,
+                ExprKind::Index(array, _) => self = Box::into_inner(array).kind,
+                ExprKind::Call(target, _, _) => match target {
+                    Target::On(object) => self = Box::into_inner(object).kind,
+                    Target::Bare | Target::Super => return,
+                },
+                ExprKind::Int
+                | ExprKind::Long
+                | ExprKind::Char
+                | ExprKind::Str
+                | ExprKind::Bool
+                | ExprKind::Null
+                | ExprKind::This
+                | ExprKind::SuperField(_) => return,
+                ExprKind::Name(_) => return,
+                ExprKind::New(_, _) => return,
+                ExprKind::NewArray(_, _) => return,
+                ExprKind::NewList(_, _) => return,
+                ExprKind::Pre(_, _, _) => return,
+                ExprKind::Post(_, _, _) => return,
+                ExprKind::Chain(_, _) => return,
+                ExprKind::Cast(_, _) => return,
+                ExprKind::Cond(_, _, _) => return,
+                ExprKind::Assign(_, _, _, _) => return,
+            }
+        }
+    }
 }

@@ -1,6 +1,8 @@
-//! What the shape of trees lets through, and what it does not.
+//! What holds of all trees, and what their shape lets through.
 
+ghost use Rattle.jv_tree.specs.Numbered.{NumbersStay};
 ghost use Rattle.jv_tree.specs.Shaped.{ShapesAreToldApart, TypesAreToldApart};
+ghost use Rattle.jv_tree.specs.Spine.{SpinesAreOne};
 
 /// A type with 200 pairs of brackets is one, and `void` and a type with 201 are none.
 pub fn types_are_told_apart()
@@ -11,4 +13,14 @@ pub fn types_are_told_apart()
 /// operators of one level, and an interface has no constructor.
 pub fn shapes_are_told_apart()
     ensures { ShapesAreToldApart }
+{}
+
+/// A tree whose identifiers have numbers of names has so too where there are more names.
+pub fn numbers_stay()
+    ensures { NumbersStay }
+{}
+
+/// An expression has one spine.
+pub fn spines_are_one()
+    ensures { SpinesAreOne }
 {}

@@ -5,7 +5,7 @@ use crate::nodes::{
     field, for_loop, if_else, index, int_literal, name_expression, on, operand, postfix, prefix,
     this, type_ref, while_loop,
 };
-use crate::{Base, Expr, ExprKind, Ident, Name, NameId, Names, Stmt, StmtKind, Target};
+use crate::{Base, Expr, ExprKind, Ident, Name, NameId, Names, StepKind, Stmt, StmtKind, Target};
 use std::alloc::Global;
 use std::test::Fail;
 
@@ -43,7 +43,7 @@ fn numbers_in_first_seen_order(rt: HostRuntime) -> Result<(), Fail> {
 }
 
 #[test]
-fn expressions(rt: HostRuntime) -> Result<(), Fail> {
+fn primaries(rt: HostRuntime) -> Result<(), Fail> {
     let alloc = rt.alloc();
     let access = field(alloc, 1, this(1), ident(6))?;
     assert!(rt;
@@ -59,21 +59,29 @@ fn expressions(rt: HostRuntime) -> Result<(), Fail> {
     assert!(rt;
         matches!(&element.kind, ExprKind::Index(array, place) if array.at == 1 && place.at == 12)
     );
-    let raised = postfix(alloc, 1, 14, 26, element)?;
+    Ok(())
+}
+
+#[test]
+fn operators(rt: HostRuntime) -> Result<(), Fail> {
+    let alloc = rt.alloc();
+    let raised = postfix(alloc, 1, 14, 26, this(1))?;
     assert!(rt; matches!(&raised.kind, ExprKind::Post(14, 26, of) if of.at == 1));
     let negated = prefix(alloc, 0, 0, 29, raised)?;
     assert!(rt; matches!(&negated.kind, ExprKind::Pre(0, 29, of) if of.at == 1));
-    let sum = chain(
-        alloc,
-        0,
-        negated,
-        vec![in alloc; (16, 28, operand(int_literal(17)))]?,
-    )?;
+    let others = vec![in alloc; (16, 28, operand(int_literal(17)))]?;
+    let sum = chain(alloc, 0, negated, others)?;
     assert!(rt;
         matches!(&sum.kind, ExprKind::Chain(first, others) if first.at == 0 && others.len() == 1)
     );
-    let converted = cast(alloc, 20, type_ref(21, Base::Long, 0), sum)?;
-    assert!(rt; matches!(&converted.kind, ExprKind::Cast(ty, of) if ty.at == 21 && of.at == 0));
+    Ok(())
+}
+
+#[test]
+fn choices(rt: HostRuntime) -> Result<(), Fail> {
+    let alloc = rt.alloc();
+    let converted = cast(alloc, 20, type_ref(21, Base::Long, 0), this(22))?;
+    assert!(rt; matches!(&converted.kind, ExprKind::Cast(ty, of) if ty.at == 21 && of.at == 22));
     let chosen = conditional(alloc, 30, bool_literal(30), converted, int_literal(40))?;
     assert!(rt;
         matches!(&chosen.kind, ExprKind::Cond(test, yes, no) if test.at == 30 && yes.at == 20 && no.at == 40)
@@ -86,7 +94,7 @@ fn expressions(rt: HostRuntime) -> Result<(), Fail> {
 }
 
 #[test]
-fn statements(rt: HostRuntime) -> Result<(), Fail> {
+fn loops(rt: HostRuntime) -> Result<(), Fail> {
     let alloc = rt.alloc();
     let body = block(9, vec![in alloc; empty(10)]?);
     let looped = while_loop(alloc, 1, bool_literal(7), body)?;
@@ -97,23 +105,68 @@ fn statements(rt: HostRuntime) -> Result<(), Fail> {
     assert!(rt;
         matches!(&repeated.kind, StmtKind::Do(body, test) if body.at == 1 && test.at == 30)
     );
-    let first = effect(40, call(40, bare(), ident(40), vec![in alloc]?));
-    let round = for_loop(
-        alloc,
-        35,
-        vec![in alloc; first]?,
-        Some(bool_literal(45)),
-        vec![in alloc; int_literal(50)]?,
-        repeated,
-    )?;
+    Ok(())
+}
+
+#[test]
+fn rounds(rt: HostRuntime) -> Result<(), Fail> {
+    let alloc = rt.alloc();
+    let first = vec![in alloc; effect(40, call(40, bare(), ident(40), vec![in alloc]?))]?;
+    let after = vec![in alloc; int_literal(50)]?;
+    let round = for_loop(alloc, 35, first, Some(bool_literal(45)), after, empty(60))?;
     assert!(rt;
         matches!(&round.kind, StmtKind::For(first, Some(test), after, body)
-        if first.len() == 1 && test.at == 45 && after.len() == 1 && body.at == 20)
+        if first.len() == 1 && test.at == 45 && after.len() == 1 && body.at == 60)
     );
-    let branches: Vec<(Expr, Stmt)> = vec![in alloc; (bool_literal(60), round)]?;
+    Ok(())
+}
+
+#[test]
+fn branches(rt: HostRuntime) -> Result<(), Fail> {
+    let alloc = rt.alloc();
+    let branches: Vec<(Expr, Stmt)> = vec![in alloc; (bool_literal(60), empty(65))]?;
     let guarded = if_else(alloc, 58, branches, Some(empty(70)))?;
     assert!(rt;
         matches!(&guarded.kind, StmtKind::If(branches, Some(otherwise)) if branches.len() == 1 && otherwise.at == 70)
     );
+    Ok(())
+}
+
+/// The spine of `this.a.b(1)[2]`.
+#[test]
+fn spines(rt: HostRuntime) -> Result<(), Fail> {
+    let alloc = rt.alloc();
+    let target = on(alloc, field(alloc, 3, this(4), ident(9))?)?;
+    let called = call(2, target, ident(11), vec![in alloc; int_literal(13)]?);
+    let element = index(alloc, 1, called, int_literal(16))?;
+    let spine = element.spine(alloc)?;
+    assert!(rt; matches!(&spine.head.kind, ExprKind::This));
+    assert_eq!(rt; spine.head.at, 4);
+    assert_eq!(rt; spine.steps.len(), 3);
+    assert!(rt;
+        matches!(&spine.steps[0].kind, StepKind::Field(name) if spine.steps[0].at == 3 && name.at == 9)
+    );
+    assert!(rt;
+        matches!(&spine.steps[1].kind, StepKind::Call(name, arguments)
+        if spine.steps[1].at == 2 && name.at == 11 && arguments.len() == 1)
+    );
+    assert!(rt;
+        matches!(&spine.steps[2].kind, StepKind::Index(place) if spine.steps[2].at == 1 && place.at == 16)
+    );
+    Ok(())
+}
+
+/// Fields, calls and indexes, two million in all, are walked and let go on the stack of this thread.
+#[test]
+fn long_spines(rt: HostRuntime) -> Result<(), Fail> {
+    let alloc = rt.alloc();
+    let mut whole = this(0);
+    for _time in 0..500_000u32 {
+        let object = field(alloc, 0, whole, ident(1))?;
+        let called = call(0, on(alloc, object)?, ident(2), vec![in alloc]?);
+        let last = field(alloc, 0, called, ident(3))?;
+        whole = index(alloc, 0, last, int_literal(4))?;
+    }
+    assert_eq!(rt; whole.spine(alloc)?.steps.len(), 2_000_000);
     Ok(())
 }

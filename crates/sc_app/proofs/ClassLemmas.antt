@@ -6,15 +6,15 @@ use Rattle.std.proofs.lemmas.Bool.{cases_Bool, false≢true}
 use Rattle.std.proofs.lemmas.List.{append-nil, take_more}
 use Rattle.std.proofs.lemmas.Grind.{flat_map-append}
 use Rattle.std.proofs.lemmas.List.Elements.{All-push, filter_map-append, Contains-append_left, Contains-append_right, Contains-push}
-use Rattle.jv_parse.specs.declared.flat_class.FlatClass.{FlatClass}
-use Rattle.jv_parse.specs.FlatSource.{Declaration, Extends, AreNamed, NamesStand, ParentStands, classes_at, parent_at, declaration_text, extends_text, text_of, names_of}
+use Rattle.jv_flat.specs.declared.flat_class.FlatClass.{FlatClass}
+use Rattle.jv_flat.specs.FlatSource.{Declaration, Extends, AreNamed, NamesStand, ParentStands, classes_at, parent_at, declaration_text, extends_text, text_of, names_of}
 use Rattle.sc_app.specs.FlatReport.{IsReport, Mention, flat, flat_report, mention_at, mentions_at, is_known, missing_line, missing_parents}
 use Rattle.sc_app.specs.Classes.{IsParentRange, IsClassRange, AreClassRanges, AreDistinct, AreFlatClasses, class_names, mention_of, missing_parent, missing_ranges}
 use Rattle.sc_app.specs.declared.place.Place.{Place}
 use Rattle.sc_app.specs.Places.{IsPlace, line_of, column_of}
 use Rattle.sc_app.specs.Lines.{diagnostic_line, last_line, placed_line}
 use Rattle.sc_io.specs.SourceTree.{FileOf}
-use Rattle.jv_parse.specs.Laws.{NamesStandAtClasses}
+use Rattle.jv_flat.specs.Laws.{NamesStandAtClasses}
 use Rattle.sc_app.proofs.CommandLemmas.{same_text}
 use Rattle.sc_app.proofs.Members.{contains_cases, contains_nothing}
 

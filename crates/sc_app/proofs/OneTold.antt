@@ -1,7 +1,7 @@
 -- What is told is one.
 use Rattle.std.proofs.Common.{◌≡◌, ℕ, List, length, refl, sym, ap, subst, ◌∙◌, arith}
-use Rattle.jv_parse.specs.Laws.{DeclarationsAreOne}
-use Rattle.jv_parse.specs.FlatSource.{Declaration}
+use Rattle.jv_flat.specs.Laws.{DeclarationsAreOne}
+use Rattle.jv_flat.specs.FlatSource.{Declaration}
 use Rattle.sc_io.specs.SourceTree.{FileOf}
 use Rattle.sc_app.specs.declared.status.Status.{Status}
 use Rattle.sc_app.specs.FlatReport.{IsReport, flat, flat_report, missing_parents, not_flat}

@@ -1,8 +1,8 @@
 -- The classes of a flat source, by where their names stand.
 use Rattle.std.specs.Prelude.{◌≡◌, ◌≤◌, ℕ, List, [], ◌∷◌, map, slice_range, Option, Some, None, option_and_then, if◌then◌else◌}
 use Rattle.std.specs.List.{All, Contains, filter_map}
-use Rattle.jv_parse.specs.declared.flat_class.FlatClass.{FlatClass}
-use Rattle.jv_parse.specs.FlatSource.{Declaration, IsFlat, classes_at}
+use Rattle.jv_flat.specs.declared.flat_class.FlatClass.{FlatClass}
+use Rattle.jv_flat.specs.FlatSource.{Declaration, IsFlat, classes_at}
 use Rattle.sc_app.specs.FlatReport.{Mention, is_known}
 
 -- the range lies in a text of this length

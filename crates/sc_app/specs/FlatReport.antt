@@ -2,7 +2,7 @@
 use Rattle.std.specs.Prelude.{◌+◌, ℕ, Bool, not, ◌||◌, List, [], ◌∷◌, ◌++◌, codes, length, nat_eq, Option, Some, None}
 use Rattle.std.specs.List.{filter, flat_map, list_any}
 use lib.Pointwise.{pointwise}
-use Rattle.jv_parse.specs.FlatSource.{Declaration, Extends, IsFlat, declaration_text, names_of}
+use Rattle.jv_flat.specs.FlatSource.{Declaration, Extends, IsFlat, declaration_text, names_of}
 use Rattle.sc_io.specs.SourceTree.{FileOf}
 use Rattle.sc_app.specs.Lines.{diagnostic_line, last_line}
 

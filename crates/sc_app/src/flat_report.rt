@@ -8,8 +8,8 @@ use crate::line::{push_diagnostic, push_last_line};
 use crate::place::Place;
 use crate::report::Report;
 use crate::status::Status;
-use jv_parse::laws::names_stand_at_classes;
-use jv_parse::{FlatClass, FlatFault, parse_flat};
+use jv_flat::laws::names_stand_at_classes;
+use jv_flat::{FlatClass, FlatFault, parse_flat};
 use sg_query::FlatGraph;
 use std::alloc::{AllocError, Global};
 

@@ -2,8 +2,8 @@ use Rattle.std.proofs.Common.{◌-◌, ◌+◌, sym, ap, ◌∙◌, subst}
 use Rattle.jv_tree.specs.DeclTree.{MemberTree, MemberTrees, member_tree}
 use Rattle.jv_grammar.specs.Reader.{Reads}
 use Rattle.jv_grammar.specs.DeclReader.{below_type, members_of}
-use Rattle.jv_parse.specs.View.{Fails, Gives}
-use Rattle.jv_parse.proofs.Faults.{refuses}
+use Rattle.jv_parse_expr.specs.View.{Fails, Gives}
+use Rattle.jv_parse_expr.proofs.Faults.{refuses}
 use Rattle.jv_parse.proofs.MemberTurns.{members_onto, members_begin, members_over, members_done, members_skip, members_failed, members_next, member_behind, member_failed}
 use Rattle.jv_parse.proofs.+declarations.Goals as goal
 

@@ -4,8 +4,8 @@ use Rattle.jv_tree.specs.StmtTree.{StmtTrees, stmt_tree, branch_trees, optional_
 use Rattle.jv_grammar.specs.Reader.{Reads}
 use Rattle.jv_grammar.specs.ExprReader.{below}
 use Rattle.jv_grammar.specs.StmtReader.{below_stmt, bstmts_up_to}
-use Rattle.jv_parse.specs.View.{Fails}
-use Rattle.jv_parse.proofs.Faults.{refuses}
+use Rattle.jv_parse_expr.specs.View.{Fails}
+use Rattle.jv_parse_expr.proofs.Faults.{refuses}
 use Rattle.jv_parse.proofs.VariableTurns.{stmts_onto}
 use Rattle.jv_parse.proofs.BlockTurns.{bstmts_begin, bstmts_over, bstmts_done, bstmts_failed, bstmts_next}
 use Rattle.jv_parse.proofs.BranchTurns.{if_failed, if_read, some_branches, with_last, branches_onto, branches_at, branches_done, last_read, too_deep, branches_next}

@@ -1,4 +1,6 @@
-//! Sources as deep as the load allows, and one level deeper, each on a thread of its own.
+//! Sources as deep as the load allows and one level deeper, and sources with as many fields, calls and indexes behind
+//! one another as 1 MiB has room for, each on a thread of its own. `rt try`, whose frames are larger than those of a
+//! compiler, has no answer for the deepest.
 
 use crate::{PARSE_STACK, ParseFault, parse};
 use jv_lex::lex;
@@ -15,14 +17,14 @@ const REFUSED: u32 = 1_000_001;
 const OTHER: u32 = 1_000_002;
 
 fn outcome(alloc: Global, source: &str) -> u32 {
-    if source.len() > 100_000 {
+    if source.len() > 1_048_576 {
         return OTHER;
     }
     let Ok(tokens) = lex(alloc, source.as_bytes()) else {
         return OTHER;
     };
     let mut names = Names::new(alloc);
-    if tokens.len() > 100_000 {
+    if tokens.len() > 1_048_576 {
         return OTHER;
     }
     match parse(alloc, source, &tokens, &mut names) {
@@ -50,7 +52,18 @@ fn repeated(alloc: Global, parts: [&str; 5], times: u32) -> Result<String, Alloc
 }
 
 // Parts of a source, how often they stand at most, and the first deep token where they stand once more.
-const DEEPEST: [([&str; 5], u32, u32); 20] = [
+const DEEPEST: [([&str; 5], u32, u32); 21] = [
+    (
+        [
+            "class A { int a = ",
+            "b||b&&b|b^b&b==b<b<<b+b*(",
+            "1",
+            ")",
+            "; }",
+        ],
+        198,
+        4184,
+    ),
     (["class A { int a = ", "(", "1", ")", "; }"], 198, 204),
     (["class A { int a = ", "b(", "", ")", "; }"], 198, 403),
     (["class A { int a = ", "b[", "0", "]", "; }"], 198, 403),
@@ -110,6 +123,32 @@ fn deepest_sources(rt: HostRuntime) -> Result<(), Fail> {
         let deeper = repeated(rt.alloc(), parts, times.wrapping_add(1))?;
         let found = outcome_apart(&rt, rt.alloc(), deeper)?;
         assert_eq!(rt; found, token, "{times}");
+    }
+    Ok(())
+}
+
+// What stands in front of a spine, a link of it and what stands behind it, how many links 1 MiB has room for, and how
+// the source ends.
+const SPINES: [([&str; 3], u32, u32); 6] = [
+    (["class A { int a = this", ".a", "; }"], 524_200, PARSED),
+    (["class A { int a = this", ".a", ""], 524_200, REFUSED),
+    (["class A { int a = a()", ".a()", "; }"], 262_100, PARSED),
+    (["class A { int a = a()", ".a()", " 1; }"], 262_100, REFUSED),
+    (["class A { int a = this", "[0].a", "; }"], 209_700, PARSED),
+    (
+        ["class A { int a = super.a", "[0].a", ".; }"],
+        209_700,
+        REFUSED,
+    ),
+];
+
+#[test]
+fn longest_spines(rt: HostRuntime) -> Result<(), Fail> {
+    for (parts, times, want) in SPINES {
+        let [front, link, end] = parts;
+        let source = repeated(rt.alloc(), [front, "", "", link, end], times)?;
+        let found = outcome_apart(&rt, rt.alloc(), source)?;
+        assert_eq!(rt; found, want, "{link}{end}");
     }
     Ok(())
 }

@@ -3,8 +3,8 @@ use Rattle.jv_tree.specs.StmtTree.{stmt_trees}
 use Rattle.jv_grammar.specs.Reader.{Reads}
 use Rattle.jv_grammar.specs.ExprReader.{below}
 use Rattle.jv_grammar.specs.StmtReader.{effects_up_to}
-use Rattle.jv_parse.specs.View.{Fails}
-use Rattle.jv_parse.proofs.Faults.{refuses}
+use Rattle.jv_parse_expr.specs.View.{Fails}
+use Rattle.jv_parse_expr.proofs.Faults.{refuses}
 use Rattle.jv_parse.proofs.VariableTurns.{stmts_onto, some_stmts, as_stmts, effect_stmts_begin, effect_stmts_over, effect_stmts_failed, effect_stmts_done, effect_stmts_next}
 use Rattle.jv_parse.proofs.effects.effect_statements.Goals as goal
 

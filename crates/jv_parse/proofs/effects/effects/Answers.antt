@@ -3,9 +3,9 @@ use Rattle.jv_tree.specs.ExprTree.{expr_trees}
 use Rattle.jv_grammar.specs.Reader.{Reads}
 use Rattle.jv_grammar.specs.ExprReader.{below}
 use Rattle.jv_grammar.specs.StmtReader.{effects_up_to}
-use Rattle.jv_parse.specs.View.{Fails}
-use Rattle.jv_parse.proofs.Faults.{refuses}
-use Rattle.jv_parse.proofs.ListTurns.{exprs_onto, some_exprs}
+use Rattle.jv_parse_expr.specs.View.{Fails}
+use Rattle.jv_parse_expr.proofs.Faults.{refuses}
+use Rattle.jv_parse_expr.proofs.ListTurns.{exprs_onto, some_exprs}
 use Rattle.jv_parse.proofs.VariableTurns.{effects_begin, effects_over, effects_failed, effects_done, effects_next}
 use Rattle.jv_parse.proofs.effects.effects.Goals as goal
 

@@ -2,9 +2,9 @@ use Rattle.std.proofs.Common.{◌-◌, ◌+◌, List, map, sym, ap, ◌∙◌, s
 use Rattle.jv_tree.specs.StmtTree.{var_tree}
 use Rattle.jv_grammar.specs.Reader.{Reads}
 use Rattle.jv_grammar.specs.DeclReader.{constants_of}
-use Rattle.jv_parse.specs.View.{Fails}
+use Rattle.jv_parse_expr.specs.View.{Fails}
 use Rattle.jv_parse.specs.DeclView.{constant_of}
-use Rattle.jv_parse.proofs.Faults.{refuses}
+use Rattle.jv_parse_expr.proofs.Faults.{refuses}
 use Rattle.jv_parse.proofs.CommaTurns.{onto, some_items, constants_listed, listed_begin, listed_over, listed_failed, listed_done, listed_next}
 use Rattle.jv_parse.proofs.fields.constants.Goals as goal
 

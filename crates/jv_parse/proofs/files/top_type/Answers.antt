@@ -1,7 +1,7 @@
 use Rattle.std.proofs.Common.{subst}
 use Rattle.jv_tree.specs.DeclTree.{TypeDeclTree, type_decl_tree}
 use Rattle.jv_grammar.specs.Reader.{Reads}
-use Rattle.jv_parse.specs.View.{Gives}
+use Rattle.jv_parse_expr.specs.View.{Gives}
 use Rattle.jv_parse.proofs.MemberTurns.{type_behind, type_failed}
 use Rattle.jv_parse.proofs.files.top_type.Goals as goal
 

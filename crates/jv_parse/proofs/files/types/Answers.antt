@@ -1,9 +1,9 @@
 use Rattle.std.proofs.Common.{◌-◌, ◌+◌, sym, ap, ◌∙◌, subst}
 use borrow.Author.Tests.{eqb-true}
 use Rattle.jv_grammar.specs.DeclReader.{types_of}
-use Rattle.jv_parse.specs.View.{Fails}
-use Rattle.jv_parse.proofs.Faults.{refuses}
-use Rattle.jv_parse.proofs.LinkTurns.{pos_of}
+use Rattle.jv_parse_expr.specs.View.{Fails}
+use Rattle.jv_parse_expr.proofs.Faults.{refuses}
+use Rattle.jv_parse_expr.proofs.LinkTurns.{pos_of}
 use Rattle.jv_parse.proofs.FileTurns.{Types, types_onto, types_begin, types_over, types_done, types_skip, types_failed, types_next}
 use Rattle.jv_parse.proofs.files.types.Goals as goal
 

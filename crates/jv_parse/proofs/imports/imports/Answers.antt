@@ -2,8 +2,8 @@ use Rattle.std.proofs.Common.{◌-◌, ◌+◌, List, sym, ap, ◌∙◌, subst}
 use Rattle.jv_tree.specs.DeclTree.{ImportTree, import_tree}
 use Rattle.jv_grammar.specs.Reader.{Reads}
 use Rattle.jv_grammar.specs.DeclReader.{imports_of}
-use Rattle.jv_parse.specs.View.{Fails}
-use Rattle.jv_parse.proofs.Faults.{refuses}
+use Rattle.jv_parse_expr.specs.View.{Fails}
+use Rattle.jv_parse_expr.proofs.Faults.{refuses}
 use Rattle.jv_parse.proofs.CommaTurns.{onto}
 use Rattle.jv_parse.proofs.ImportTurns.{imports_begin, imports_over, imports_done, imports_failed, imports_next}
 use Rattle.jv_parse.proofs.imports.imports.Goals as goal

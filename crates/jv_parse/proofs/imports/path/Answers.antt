@@ -1,6 +1,6 @@
 use Rattle.std.proofs.Common.{◌-◌, ◌+◌, true, false, sym, ap, ◌∙◌}
 use Rattle.jv_grammar.specs.DeclReader.{path_of}
-use Rattle.jv_parse.proofs.Faults.{refuses}
+use Rattle.jv_parse_expr.proofs.Faults.{refuses}
 use Rattle.jv_parse.proofs.ImportTurns.{path_onto, some_path, path_read, path_begin, path_over, path_refused, path_done, path_all, path_next}
 use Rattle.jv_parse.proofs.imports.path.Goals as goal
 

@@ -2,8 +2,8 @@ use Rattle.std.proofs.Common.{◌-◌, ◌+◌, List, map, sym, ap, ◌∙◌, s
 use Rattle.jv_tree.specs.DeclTree.{param_tree}
 use Rattle.jv_grammar.specs.Reader.{Reads}
 use Rattle.jv_grammar.specs.DeclReader.{param_of, some_params_of}
-use Rattle.jv_parse.specs.View.{Fails}
-use Rattle.jv_parse.proofs.Faults.{refuses}
+use Rattle.jv_parse_expr.specs.View.{Fails}
+use Rattle.jv_parse_expr.proofs.Faults.{refuses}
 use Rattle.jv_parse.proofs.CommaTurns.{onto, some_items, params_listed, listed_begin, listed_over, listed_failed, listed_done, listed_next}
 use Rattle.jv_parse.proofs.parameters.some_parameters.Goals as goal
 

@@ -1,9 +1,11 @@
-use Rattle.std.proofs.Common.{◌≡◌, ℕ, List, [], length, sym, ap, ◌∙◌}
+use Rattle.std.proofs.Common.{◌≡◌, ℕ, List, [], length, sym, ap, ◌∙◌, subst}
 use Rattle.std.proofs.lemmas.List.{append-nil, length-map}
 use Rattle.jv_lex.specs.declared.token.Token.{Token}
 use Rattle.jv_parse.specs.Naming.{terminal_of}
+use Rattle.jv_parse.specs.Identifiers.{AreNumberedTerminals}
 use Rattle.jv_parse.specs.Parse.{terminals_of}
-use Rattle.jv_parse.proofs.Answered.{few_identifiers}
+use Rattle.jv_parse.proofs.Numbers.{numbered_terminals}
+use Rattle.jv_parse.proofs.Answered.{few_identifiers, numbered_tree}
 use Rattle.jv_parse.proofs.AddedNames.{adds_front}
 use Rattle.jv_parse.proofs.parser.parse.Goals as goal
 
@@ -22,3 +24,11 @@ returns-clause-count c =
     let tokens : List Token = c.args.tokens.now in
     let terminals : c.deref.result.now ≡ terminals_of source c.name_tokens.new.names tokens = c.deref.ensures.value ∙ c.in_ok-terminals.ensures.terminals in
     few_identifiers c.deref.result.now (length tokens) c.tree.result (ap length terminals ∙ length-map tokens (terminal_of source c.name_tokens.new.names)) c.tree.ensures
+
+pub returns-clause-numbered : goal.returns-clause-numbered
+returns-clause-numbered c =
+    let source : List ℕ = c.args.source.now in
+    let names : List (List ℕ) = c.name_tokens.new.names in
+    let terminals : c.deref.result.now ≡ terminals_of source names c.args.tokens.now = c.deref.ensures.value ∙ c.in_ok-terminals.ensures.terminals in
+    numbered_tree c.deref.result.now (length names) c.tree.result
+    (subst (AreNumberedTerminals (length names)) (sym terminals) (numbered_terminals source names c.args.tokens.now c.in_ok-terminals.ensures.known)) c.tree.ensures

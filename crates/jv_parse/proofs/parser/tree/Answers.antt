@@ -1,7 +1,7 @@
 use Rattle.std.proofs.Common.{◌≡◌, Some, refl, sym, ap, subst}
 use Rattle.jv_tree.specs.DeclTree.{tree_of}
 use Rattle.jv_grammar.specs.DeclReader.{file_of}
-use Rattle.jv_parse.specs.View.{Fails, left}
+use Rattle.jv_parse_expr.specs.View.{Fails, left}
 use Rattle.jv_parse.proofs.Answered.{tree_read, none_read}
 use Rattle.jv_parse.proofs.parser.tree.Goals as goal
 

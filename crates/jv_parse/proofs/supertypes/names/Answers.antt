@@ -3,8 +3,8 @@ use Rattle.jv_tree.specs.TypeTree.{ids_of}
 use Rattle.jv_grammar.specs.Reader.{Reads}
 use Rattle.jv_grammar.specs.TypeReader.{name_of}
 use Rattle.jv_grammar.specs.DeclReader.{names_of}
-use Rattle.jv_parse.specs.View.{Fails}
-use Rattle.jv_parse.proofs.Faults.{refuses}
+use Rattle.jv_parse_expr.specs.View.{Fails}
+use Rattle.jv_parse_expr.proofs.Faults.{refuses}
 use Rattle.jv_parse.proofs.CommaTurns.{onto, some_items, names_listed, listed_begin, listed_over, listed_failed, listed_done, listed_next}
 use Rattle.jv_parse.proofs.supertypes.names.Goals as goal
 

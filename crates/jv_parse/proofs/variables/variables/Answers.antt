@@ -3,8 +3,8 @@ use Rattle.jv_tree.specs.StmtTree.{var_trees}
 use Rattle.jv_grammar.specs.Reader.{Reads}
 use Rattle.jv_grammar.specs.ExprReader.{below}
 use Rattle.jv_grammar.specs.StmtReader.{vars_up_to}
-use Rattle.jv_parse.specs.View.{Fails}
-use Rattle.jv_parse.proofs.Faults.{refuses}
+use Rattle.jv_parse_expr.specs.View.{Fails}
+use Rattle.jv_parse_expr.proofs.Faults.{refuses}
 use Rattle.jv_parse.proofs.VariableTurns.{vars_onto, some_vars, vars_begin, vars_over, vars_failed, vars_done, vars_next}
 use Rattle.jv_parse.proofs.variables.variables.Goals as goal
 

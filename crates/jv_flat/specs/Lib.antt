@@ -1,0 +1,4 @@
+pub mod FlatWords
+pub mod FlatSource
+pub mod FlatPlaces
+pub mod Laws
