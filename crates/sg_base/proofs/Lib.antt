@@ -5,6 +5,7 @@ pub mod Ends
 pub mod Entries
 pub mod Finite
 pub mod Growing
+pub mod Removing
 pub mod Rising
 pub mod Rows
 pub mod Scopes

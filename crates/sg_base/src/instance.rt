@@ -50,6 +50,9 @@ pub trait Instance {
     /// Counting as one is an equivalence.
     ghost sameness: { IsSameness same_datum };
 
+    /// Data that count as one have one key.
+    ghost one_key: { (a b : Self.Datum) → IsTrue (same_datum a b) → datum_key a ≡ datum_key b };
+
     /// A datum that a predicate with a key wants has that key.
     ghost keyed: { (p : Self.Pred) (d : Self.Datum) (k : ℕ) → pred_key p ≡ Some k → IsTrue (wants p d) → datum_key d ≡ k };
 }

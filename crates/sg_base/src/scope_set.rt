@@ -65,4 +65,18 @@ impl ScopeSet {
             Err(at) => Ok(self.scopes.insert(at, s)?),
         }
     }
+
+    /// Takes a scope out of the set, if it is there. Finding it takes a binary search, and the scopes above it are moved
+    /// by one place.
+    pub fn remove(&mut self, s: Scope)
+        ensures left { (t : ScopeOf) → (Contains self.new t) ↔ (Contains self.old t × (t ≡ s → ⊥)) }
+        ensures rising { IsRising scope_cmp self.new }
+    {
+        match self.scopes.binary_search(&s) {
+            Ok(at) => {
+                self.scopes.remove(at);
+            }
+            Err(_) => {}
+        }
+    }
 }

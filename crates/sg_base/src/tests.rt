@@ -152,6 +152,8 @@ impl Instance for Numbers {
       transitive = λ a b c h k. Prim.grind (arith, nat_tests);
     } };
 
+    ghost one_key = { λ a b h. Prim.grind (arith, nat_tests) };
+
     ghost keyed = { λ p d k. elim p [ Is n ↦ λ e t. Prim.grind (arith, nat_tests) | Any ↦ λ e t. Prim.grind (arith, nat_tests) ] };
 }
 

@@ -27,7 +27,7 @@ use Rattle.sg_unit.specs.declared.reply.Reply.TheVariants.{Made, Done, Moved, Re
 use Rattle.sg_unit.specs.Operation.{goes_on, woken_by, waits_by}
 use Rattle.sg_unit.specs.Run.{Setting, RunOf, Asking, open_ask, asked_by, opened, held_after, advanced, ask_after, after, run_of, IsFor}
 use Rattle.sg_unit.specs.Step.{May, Replies, IsStep}
-use Rattle.sg_unit.specs.Waiting.{Blocks, IsStillOpen, Needs, IsWoken}
+use Rattle.sg_unit.specs.Waiting.{Blocks, IsStillOpen, WaitsOn, IsWoken}
 use Rattle.sg_unit.proofs.Asks.{IsAskedRun, ready_for}
 use Rattle.sg_unit.proofs.Growing.{runs_grow, runs_hold}
 use Rattle.sg_unit.proofs.Steps.{op_follows, op_held, in_run}
@@ -170,7 +170,7 @@ is_open h q (Datum t) b = b.4
 record IsUnitAt {D P : Type 0} (z : Setting D P) (r : RunOf D P) (u : ℕ) (st : Status) : Type 0 where
   pub live : is_live st ≡ r.live u
   pub waiting : waits st ≡ r.waits u
-  pub needs : (n : Need) → (Contains (needs_of st) n) ↔ (Needs z r u n)
+  pub needs : (n : Need) → (Contains (needs_of st) n) ↔ (WaitsOn z r u n)
 
 module _ {I R D P : Type 0} (z : Setting D P) (r : RunOf D P) (e : Entry I R D P) (s : IsStep z r e) where
   -- ---- asks
@@ -256,7 +256,7 @@ module _ {I R D P : Type 0} (z : Setting D P) (r : RunOf D P) (e : Entry I R D P
   woken_waited next (EndOf x) Stuck m k v c = absurd (nothing_in v c)
 
   -- what another unit needs stays what it needs, where it is not woken
-  needs_stay : IsWaitedRun z r → (u : ℕ) → eqb e.unit u ≡ false → list_any (λ v. eqb v u) (woken_by e.reply) ≡ false → (n : Need) → (Needs z r u n) ↔ (Needs z (after r e) u n)
+  needs_stay : IsWaitedRun z r → (u : ℕ) → eqb e.unit u ≡ false → list_any (λ v. eqb v u) (woken_by e.reply) ≡ false → (n : Need) → (WaitsOn z r u n) ↔ (WaitsOn z (after r e) u n)
   needs_stay ok u b out n = (
     (λ k.
         let q = (k.1).0 in

@@ -1,18 +1,13 @@
 -- Asks, takes and advances in a run, and what is kept after them.
-use Rattle.std.proofs.Common.{◌≡◌, ℕ, ◌+◌, ◌*◌, ◌<◌, ◌≤◌, ◌^◌, List, [], ◌∷◌, ◌++◌, ◌↔◌, inl, inr, Bool, true, false, IsTrue, length, slice_set, Option, Some, None, refl, sym, ◌∙◌, ap, subst, arith, length-append}
-use Rattle.std.specs.List.{Contains}
+use Rattle.std.proofs.Common.{◌≡◌, ℕ, ◌+◌, ◌*◌, ◌<◌, ◌≤◌, ◌^◌, List, [], ◌∷◌, ◌++◌, ◌↔◌, Bool, true, false, IsTrue, length, slice_set, Option, Some, None, refl, sym, ◌∙◌, ap, subst, arith, length-append}
 use Rattle.sg_base.specs.List.{MoreThan}
 use Rattle.sg_base.specs.State.{State}
-use Rattle.sg_base.proofs.Finite.{pigeons}
 use Rattle.sg_query.specs.declared.answer.Answer.{Answer}
 use Rattle.sg_query.specs.declared.query.Query.{Query}
 use Rattle.sg_query.specs.Answer.{IsAnswer}
-use Rattle.sg_query.specs.Query.{Asked}
-use Rattle.sg_query.specs.State.{Item, next, whole, IsItem}
-use Rattle.sg_query.proofs.Alike.{viable_from_in}
-use Rattle.sg_engine.specs.Front.{Front, Stands, AllBlocked}
+use Rattle.sg_query.specs.Query.{KindOf}
+use Rattle.sg_engine.specs.Front.{Stands}
 use Rattle.sg_engine.specs.Search.{SearchOf, IsOfTable}
-use Rattle.sg_engine.proofs.Ending.{item_done, all_paths, viable_before}
 use Rattle.sg_state.specs.Held.{HeldOf, state_of}
 use Rattle.sg_unit.specs.declared.entry.Entry.{Entry}
 use Rattle.sg_unit.specs.declared.op.Op.{Op}
@@ -25,11 +20,10 @@ use Rattle.sg_unit.specs.Waiting.{IsStuck}
 use Rattle.sg_unit.proofs.Steps.{in_run}
 use Rattle.sg_unit.proofs.Waiters.{IsWaitedRun}
 use Rattle.sg_waits.specs.declared.shown.Shown.{Shown}
-use Rattle.sg_waits.specs.Waits.{WaitsOf, status_at, is_live, waits, IsLive, IsWaiting}
+use Rattle.sg_waits.specs.Waits.{WaitsOf, status_at, is_live, waits}
 use Rattle.sg_waits.specs.Waits as table
 use Rattle.sg_core.specs.declared.ask.Ask.{Ask}
 use Rattle.sg_core.specs.declared.ask.Ask.TheVariants.{Nothing, Open, Ready}
-use Rattle.sg_query.specs.declared.kind.Kind.{Kind}
 use Rattle.sg_unit.specs.Unit.{setting_of}
 use Rattle.sg_core.specs.Core.{CoreOf, entry, IsCore}
 use Rattle.sg_core.specs.Kept.{IsKeptAsk, ask_at, IsShowing, IsKept}
@@ -42,24 +36,6 @@ use Rattle.sg_core.proofs.Keeping.{kept_run, kept_step, asks_set, waits_wake, en
 -- there are more than fewer of what there are more of
 pub more_than_fewer : {X : Type 0} (n m : ℕ) (P : X → Type 0) → n ≤ m → MoreThan m P → MoreThan n P
 more_than_fewer n m P le k = (k.0, omega (arith, le, k.1), k.2, k.3)
-
--- where each item left is blocked, no fewer items were explored than at any time before in the state
-pub explored_all : {D : Type 0} (h : State D) (q : Asked D) (f g : Front D) → Stands h q f → Stands h q g → AllBlocked h q g → f.explored ≤ g.explored
-explored_all {D} h q f g was now stuck =
-    let few = pigeons was.0 now.0 was.1.done_once (λ x c. reached x (item_done h q f was.0 was.1 x c)) in
-    omega (arith, few, was.1.count, now.1.count)
-  where
-    reached : (x : Item) → IsItem h q x → Contains now.0 x
-    reached (next ps l) i =
-        elim ((now.1.offered (next ps l)).1 (all_paths h q g now.0 now.1 stuck ps i.0 (viable_before q.expr _ l i.1), i.1)) [
-          | inl d ↦ d
-          | inr left ↦ absurd (i.2 (stuck (next ps l) left))
-        ]
-    reached (whole ps) i =
-        elim ((now.1.offered (whole ps)).1 (all_paths h q g now.0 now.1 stuck ps i.0 (viable_from_in q.expr _ i.1), i.1)) [
-          | inl d ↦ d
-          | inr left ↦ absurd (i.2 (stuck (whole ps) left))
-        ]
 
 -- ---- what is kept of an ask
 
@@ -90,7 +66,7 @@ not_true true n = absurd (n refl)
 not_true false n = refl
 
 -- whether each live unit waits, by a table and by a run
-pub stuck_alike : {D P : Type 0} (ws : WaitsOf) (r : RunOf D P) → ((v : ℕ) → is_live (status_at ws v) ≡ r.live v) → ((v : ℕ) → waits (status_at ws v) ≡ r.waits v) → (table.IsStuck ws) ↔ (IsStuck r)
+pub stuck_alike : {D P : Type 0} (ws : WaitsOf) (r : RunOf D P) → ((v : ℕ) → is_live (status_at ws v) ≡ r.live v) → ((v : ℕ) → waits (status_at ws v) ≡ r.waits v) → (table.AllWait ws) ↔ (IsStuck r)
 stuck_alike ws r lives waiting = (
   (λ s. ((s.some.0, sym (lives s.some.0) ∙ s.some.1), λ v l. sym (waiting v) ∙ s.each v (lives v ∙ l))),
   (λ s. record { some = ((s.0).0, lives (s.0).0 ∙ (s.0).1); each = λ v l. waiting v ∙ s.1 v (sym (lives v) ∙ l) }),
@@ -162,16 +138,16 @@ module _ {I R D P : Type 0} (z : Setting D P) (h : HeldOf D) (ws : WaitsOf) (aa 
 -- ---- cores
 
 -- what is kept makes the log that of a core
-pub core_of : {I R D P : Type 0} (wants : P → D → Bool) (same : D → D → Bool) (opening : HeldOf D) (kinds : List Kind) (h : HeldOf D) (ws : WaitsOf) (aa : List (Ask I D P)) (es : List (Option ℕ)) (sh : Option Shown) (log : List (Entry I R D P)) → IsKept (setting_of wants same opening kinds) h ws aa es sh log → IsCore wants same (record { opening = opening; kinds = kinds; log = log })
+pub core_of : {I R D P : Type 0} (wants : P → D → Bool) (same : D → D → Bool) (opening : HeldOf D) (kinds : List KindOf) (h : HeldOf D) (ws : WaitsOf) (aa : List (Ask I D P)) (es : List (Option ℕ)) (sh : Option Shown) (log : List (Entry I R D P)) → IsKept (setting_of wants same opening kinds) h ws aa es sh log → IsCore wants same (record { opening = opening; kinds = kinds; log = log })
 core_of wants same opening kinds h ws aa es sh log k = record { opens = k.opens; runs = k.runs; few = k.few }
 
-abbrev pub core_with : {I R D P : Type 0} → HeldOf D → List Kind → List (Entry I R D P) → CoreOf I R D P
+abbrev pub core_with : {I R D P : Type 0} → HeldOf D → List KindOf → List (Entry I R D P) → CoreOf I R D P
 core_with opening kinds log = record { opening = opening; kinds = kinds; log = log }
 
-pub same_core : {I R D P : Type 0} (opening : HeldOf D) (kinds : List Kind) (a b : List (Entry I R D P)) → a ≡ b → core_with opening kinds a ≡ core_with opening kinds b
+pub same_core : {I R D P : Type 0} (opening : HeldOf D) (kinds : List KindOf) (a b : List (Entry I R D P)) → a ≡ b → core_with opening kinds a ≡ core_with opening kinds b
 same_core opening kinds a b e = ap (core_with opening kinds) e
 
-pub core_log : {I R D P : Type 0} (wants : P → D → Bool) (same : D → D → Bool) (opening : HeldOf D) (kinds : List Kind) (a b : List (Entry I R D P)) → a ≡ b → IsCore wants same (core_with opening kinds b) → IsCore wants same (core_with opening kinds a)
+pub core_log : {I R D P : Type 0} (wants : P → D → Bool) (same : D → D → Bool) (opening : HeldOf D) (kinds : List KindOf) (a b : List (Entry I R D P)) → a ≡ b → IsCore wants same (core_with opening kinds b) → IsCore wants same (core_with opening kinds a)
 core_log {I} {R} {D} {P} wants same opening kinds a b e c = subst (λ (l : List (Entry I R D P)). IsCore wants same (core_with opening kinds l)) (sym e) c
 
 pub kept_log : {I R D P : Type 0} (z : Setting D P) (h : HeldOf D) (ws : WaitsOf) (aa : List (Ask I D P)) (es : List (Option ℕ)) (sh : Option Shown) (a b : List (Entry I R D P)) → a ≡ b → IsKept z h ws aa es sh b → IsKept z h ws aa es sh a

@@ -49,7 +49,7 @@ use Rattle.sg_core.specs.Showing.{HaveHolders, ShowsFor}
 use Rattle.sg_core.proofs.Answering.{same_search, set_again}
 use Rattle.sg_core.proofs.Holders.{shows_all}
 use Rattle.sg_core.proofs.Keeping.{kept_run, kept_step, asks_set, waits_note, ends_kept}
-use Rattle.sg_core.proofs.Moving.{more_than_fewer, explored_all, kept_search, stuck_alike, not_stuck, none_shown, ask_within, go_on}
+use Rattle.sg_core.proofs.Moving.{more_than_fewer, kept_search, stuck_alike, not_stuck, none_shown, ask_within, go_on}
 
 -- a query that is not settled has a need
 pub some_need : {D : Type 0} (h : State D) (q : Asked D) (ns : List Need) → AreNeeds h q ns → (IsSettled h q → ⊥) → 0 < length ns
@@ -261,13 +261,13 @@ module _ {I R D P : Type 0} (z : Setting D P) (h : HeldOf D) (ws : WaitsOf) (aa 
                 ∙ ap (λ (l : List ℕ). (run_of z log).waits v && not (list_any (λ w. eqb w v) l)) silent ∙ stays_true ((run_of z log).waits v))
           ]
 
-      stuck_now : (table.IsStuck (slice_set ws u (Waits t.search.needs))) ↔ (IsStuck (after {R = R} (run_of z log) (entry u Advance y)))
+      stuck_now : (table.AllWait (slice_set ws u (Waits t.search.needs))) ↔ (IsStuck (after {R = R} (run_of z log) (entry u Advance y)))
       stuck_now = stuck_alike (slice_set ws u (Waits t.search.needs)) (after {R = R} (run_of z log) (entry u Advance y)) live_now waits_now
 
     unsettled : (q : Query P) (n : ℕ) → (run_of z log).asks u ≡ open_ask q n → IsSettled (state_of (run_of z log).held) (asked_by z q) → ⊥
     unsettled q n e = subst (λ (x : Query P). IsSettled (state_of (run_of z log).held) (asked_by z x) → ⊥) (before Blocked bb t q n e).0 ((progress_here Blocked bb t)).4
 
-    pub blocked_step : (b : Bool) → (IsTrue b) ↔ (table.IsStuck (slice_set ws u (Waits t.search.needs))) → IsStep {I = I} {R = R} z (run_of z log) (entry u Advance (waiting_reply b))
+    pub blocked_step : (b : Bool) → (IsTrue b) ↔ (table.AllWait (slice_set ws u (Waits t.search.needs))) → IsStep {I = I} {R = R} z (run_of z log) (entry u Advance (waiting_reply b))
     blocked_step true s = record { may = m; replies = λ q n e. (unsettled q n e, (stuck_now Stuck refl (λ x. refl)).0 (s.0 refl)) }
     blocked_step false s = record { may = m; replies = λ q n e. (unsettled q n e, λ x. absurd (let f = s.1 ((stuck_now Suspended refl (λ x. refl)).1 x) in cc)) }
 
@@ -275,9 +275,7 @@ module _ {I R D P : Type 0} (z : Setting D P) (h : HeldOf D) (ws : WaitsOf) (aa 
     later_asks : (n : ℕ) → (run_of z log).asks u ≡ open_ask m.1.0 n → IsKeptAsk z (run_of z log).held (open_ask m.1.0 n) (let x : Ask I D P = Open t.search in x)
     later_asks n e =
         let b = before Blocked bb t m.1.0 n e in
-        let w = (progress_here Blocked bb t) in
-        let up = explored_all (state_of (run_of z log).held) (asked_by z t.before.query) t.before.front t.search.front b.2 (stands_here Blocked bb t) w.2 in
-        kept_now Blocked bb t m.1.0 n b.0 (omega (arith, up, b.1))
+        kept_now Blocked bb t m.1.0 n b.0 (omega (arith, t.more, b.1))
 
     noted : (y : Reply I D P) → IsStep {I = I} {R = R} z (run_of z log) (entry u Advance y) → (y ≡ Suspended) ⊎ (y ≡ Stuck) → AreWaits z (after {R = R} (run_of z log) (entry u Advance y)) (slice_set ws u (Waits t.search.needs))
     noted y s is =
@@ -295,7 +293,7 @@ module _ {I R D P : Type 0} (z : Setting D P) (h : HeldOf D) (ws : WaitsOf) (aa 
           | inr e ↦ subst (λ (x : Reply I D P). IsKeptAsk z (run_of z log).held (advanced (open_ask m.1.0 m.1.1) x) (let w : Ask I D P = Open t.search in w)) (sym e) (later_asks m.1.1 m.1.2)
         ])))
 
-    pub blocked_kept : length log + 1 < 2 ^ 63 → (b : Bool) → (IsTrue b) ↔ (table.IsStuck (slice_set ws u (Waits t.search.needs))) → (sh' : Option Shown) → ShowsWhere h (slice_set ws u (Waits t.search.needs)) sh sh' b → IsKept z h (slice_set ws u (Waits t.search.needs)) bb es sh' (log ++ entry u Advance (waiting_reply b) ∷ [])
+    pub blocked_kept : length log + 1 < 2 ^ 63 → (b : Bool) → (IsTrue b) ↔ (table.AllWait (slice_set ws u (Waits t.search.needs))) → (sh' : Option Shown) → ShowsWhere h (slice_set ws u (Waits t.search.needs)) sh sh' b → IsKept z h (slice_set ws u (Waits t.search.needs)) bb es sh' (log ++ entry u Advance (waiting_reply b) ∷ [])
     blocked_kept few true s sh' x =
         let y : Reply I D P = Stuck in
         let step = blocked_step true s in
@@ -359,13 +357,13 @@ module _ {I R D P : Type 0} (z : Setting D P) (h : HeldOf D) (ws : WaitsOf) (aa 
       pub these_held : HaveHolders h (slice_set ws u (Waits ns)) None
       these_held = subst (λ (l : List Need). HaveHolders h (slice_set ws u (Waits l)) None) (sym these) needs_held
 
-      pub these_step : (b : Bool) → (IsTrue b) ↔ (table.IsStuck (slice_set ws u (Waits ns))) → IsStep {I = I} {R = R} z (run_of z log) (entry u Advance (waiting_reply b))
-      these_step b x = blocked_step b (subst (λ (l : List Need). (IsTrue b) ↔ (table.IsStuck (slice_set ws u (Waits l)))) these x)
+      pub these_step : (b : Bool) → (IsTrue b) ↔ (table.AllWait (slice_set ws u (Waits ns))) → IsStep {I = I} {R = R} z (run_of z log) (entry u Advance (waiting_reply b))
+      these_step b x = blocked_step b (subst (λ (l : List Need). (IsTrue b) ↔ (table.AllWait (slice_set ws u (Waits l)))) these x)
 
-      pub these_kept : length log + 1 < 2 ^ 63 → (b : Bool) → (IsTrue b) ↔ (table.IsStuck (slice_set ws u (Waits ns))) → (sh' : Option Shown) → ShowsWhere h (slice_set ws u (Waits ns)) sh sh' b → (ws' : WaitsOf) → ws' ≡ slice_set ws u (Waits ns) → IsKept z h ws' bb es sh' (log ++ entry u Advance (waiting_reply b) ∷ [])
+      pub these_kept : length log + 1 < 2 ^ 63 → (b : Bool) → (IsTrue b) ↔ (table.AllWait (slice_set ws u (Waits ns))) → (sh' : Option Shown) → ShowsWhere h (slice_set ws u (Waits ns)) sh sh' b → (ws' : WaitsOf) → ws' ≡ slice_set ws u (Waits ns) → IsKept z h ws' bb es sh' (log ++ entry u Advance (waiting_reply b) ∷ [])
       these_kept few b x sh' y ws' now =
           subst (λ (w : WaitsOf). IsKept z h w bb es sh' (log ++ entry u Advance (waiting_reply b) ∷ [])) (sym (now ∙ ap (λ (l : List Need). slice_set ws u (Waits l)) these))
-          (blocked_kept few b (subst (λ (l : List Need). (IsTrue b) ↔ (table.IsStuck (slice_set ws u (Waits l)))) these x) sh' (subst (λ (l : List Need). ShowsWhere h (slice_set ws u (Waits l)) sh sh' b) these y))
+          (blocked_kept few b (subst (λ (l : List Need). (IsTrue b) ↔ (table.AllWait (slice_set ws u (Waits l)))) these x) sh' (subst (λ (l : List Need). ShowsWhere h (slice_set ws u (Waits l)) sh sh' b) these y))
 
     pub given_up_all : (ws' : WaitsOf) → ws' ≡ ws → (sh' : Option Shown) → sh' ≡ sh → IsKept z h ws' bb es sh' log
     given_up_all ws' a sh' b = subst (λ (w : WaitsOf). IsKept z h w bb es sh' log) (sym a) (subst (λ (o : Option Shown). IsKept z h ws bb es o log) (sym b) given_up)
@@ -410,10 +408,10 @@ module _ {I R D P : Type 0} (z : Setting D P) (h : HeldOf D) (ws : WaitsOf) (aa 
         let same : o.query ≡ q = cc in
         subst (λ (x : Query P). IsSettled (state_of (run_of z log).held) (asked_by z x) → ⊥) same o.unsettled
 
-    stuck_still : (table.IsStuck ws) ↔ (IsStuck (run_of z log))
+    stuck_still : (table.AllWait ws) ↔ (IsStuck (run_of z log))
     stuck_still = stuck_alike ws (run_of z log) k.waits.live k.waits.waiting
 
-    pub again_step : (b : Bool) → (IsTrue b) ↔ (table.IsStuck ws) → IsStep {I = I} {R = R} z (run_of z log) (entry u Advance (waiting_reply b))
+    pub again_step : (b : Bool) → (IsTrue b) ↔ (table.AllWait ws) → IsStep {I = I} {R = R} z (run_of z log) (entry u Advance (waiting_reply b))
     again_step true s = record { may = m; replies = λ q n e. (unsettled_still q n e, subst (λ (r : RunOf D P). IsStuck r) (sym (same_run Stuck refl (λ x. refl) (λ a. stuck_leaves I D a))) (stuck_still.0 (s.0 refl))) }
     again_step false s = record {
       may = m;
@@ -428,6 +426,6 @@ module _ {I R D P : Type 0} (z : Setting D P) (h : HeldOf D) (ws : WaitsOf) (aa 
         kept_step z h ws aa es sh log k (entry u Advance y) step few h refl ws (subst (λ (r : RunOf D P). AreWaits z r ws) (sym same) k.waits) aa (subst (λ (r : RunOf D P). AreAsks z r aa) (sym same) k.asks) es
         (ends_kept z (run_of z log) (entry u Advance y) step log es k.ends refl advancer) sh (subst (λ (r : RunOf D P). IsShowing z r sh) (sym same) k.shown)
 
-    pub again_kept : length log + 1 < 2 ^ 63 → (b : Bool) → (IsTrue b) ↔ (table.IsStuck ws) → IsKept z h ws aa es sh (log ++ entry u Advance (waiting_reply b) ∷ [])
+    pub again_kept : length log + 1 < 2 ^ 63 → (b : Bool) → (IsTrue b) ↔ (table.AllWait ws) → IsKept z h ws aa es sh (log ++ entry u Advance (waiting_reply b) ∷ [])
     again_kept few true s = again_with Stuck (same_run Stuck refl (λ x. refl) (λ a. stuck_leaves I D a)) (again_step true s) few
     again_kept few false s = again_with Suspended (same_run Suspended refl (λ x. refl) (λ a. suspended_leaves I D a)) (again_step false s) few

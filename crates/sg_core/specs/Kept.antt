@@ -13,7 +13,7 @@ use Rattle.sg_unit.specs.declared.op.Op.TheVariants.{End as EndOf}
 use Rattle.sg_unit.specs.declared.reply.Reply.{Reply}
 use Rattle.sg_unit.specs.Run.{Setting, RunOf, Asking, no_ask, open_ask, ready_ask, asked_by, run_of}
 use Rattle.sg_unit.specs.Step.{IsRun}
-use Rattle.sg_unit.specs.Waiting.{IsStuck, Needs}
+use Rattle.sg_unit.specs.Waiting.{IsStuck, WaitsOn}
 use Rattle.sg_waits.specs.declared.shown.Shown.{Shown}
 use Rattle.sg_waits.specs.Waits.{WaitsOf, status_at, needs_at, is_live, waits}
 use Rattle.sg_core.specs.declared.ask.Ask.{Ask}
@@ -36,7 +36,7 @@ pub record AreWaits {D P : Type 0} (z : Setting D P) (r : RunOf D P) (ws : Waits
   pub units : length ws ≡ length r.held.made
   pub live : (u : ℕ) → is_live (status_at ws u) ≡ r.live u
   pub waiting : (u : ℕ) → waits (status_at ws u) ≡ r.waits u
-  pub needs : (u : ℕ) (n : Need) → (Contains (needs_at ws u) n) ↔ (Needs z r u n)
+  pub needs : (u : ℕ) (n : Need) → (Contains (needs_at ws u) n) ↔ (WaitsOn z r u n)
 
 -- each unit's ask is kept
 pub record AreAsks {I D P : Type 0} (z : Setting D P) (r : RunOf D P) (asks : List (Ask I D P)) : Type 0 where

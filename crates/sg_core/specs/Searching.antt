@@ -1,9 +1,8 @@
 -- Asks of units, by their numbers: searches that go on, and answers that are ready.
-use Rattle.std.specs.Prelude.{◌≡◌, ℕ, List, Bool, Some, slice_set}
+use Rattle.std.specs.Prelude.{◌≡◌, ◌≤◌, ℕ, List, Bool, Some, slice_set}
 use Rattle.sg_base.specs.Graph.{HasScope}
 use Rattle.sg_query.specs.declared.answer.Answer.{Answer}
-use Rattle.sg_query.specs.declared.kind.Kind.{Kind}
-use Rattle.sg_query.specs.Query.{asked}
+use Rattle.sg_query.specs.Query.{KindOf, asked}
 use Rattle.sg_engine.specs.declared.progress.Progress.{Progress}
 use Rattle.sg_engine.specs.Front.{Stands}
 use Rattle.sg_engine.specs.Search.{SearchOf, IsOfTable, IsProgress}
@@ -35,7 +34,7 @@ abbrev pub HasFound : {I D P : Type 0} → List (Ask I D P) → ℕ → Type 0
 HasFound {D = D} {P = P} asks u = (s : SearchOf P D) × (a : Answer D) × IsSearchAt asks u s × (s.answer ≡ Some a)
 
 -- the unit's ask is a search that stands in the held graph
-pub record CanSearch {I D P : Type 0} (wants : P → D → Bool) (same : D → D → Bool) (kinds : List Kind) (h : HeldOf D) (asks : List (Ask I D P)) (u : ℕ) : Type 0 where
+pub record CanSearch {I D P : Type 0} (wants : P → D → Bool) (same : D → D → Bool) (kinds : List KindOf) (h : HeldOf D) (asks : List (Ask I D P)) (u : ℕ) : Type 0 where
   pub search : SearchOf P D
   pub at : IsSearchAt asks u search
   pub table : IsOfTable kinds search
@@ -43,7 +42,7 @@ pub record CanSearch {I D P : Type 0} (wants : P → D → Bool) (same : D → D
   pub stands : Stands (state_of h) (asked wants same kinds search.query) search.front
 
 -- the unit's search has gone on so far, and the other asks are as before
-pub record SearchesOn {I D P : Type 0} (wants : P → D → Bool) (same : D → D → Bool) (kinds : List Kind) (h : HeldOf D) (old new : List (Ask I D P)) (u : ℕ) (p : Progress) : Type 0 where
+pub record SearchesOn {I D P : Type 0} (wants : P → D → Bool) (same : D → D → Bool) (kinds : List KindOf) (h : HeldOf D) (old new : List (Ask I D P)) (u : ℕ) (p : Progress) : Type 0 where
   pub before : SearchOf P D
   pub search : SearchOf P D
   pub was : IsSearchAt old u before
@@ -51,6 +50,7 @@ pub record SearchesOn {I D P : Type 0} (wants : P → D → Bool) (same : D → 
   pub query : search.query ≡ before.query
   pub table : IsOfTable kinds search
   pub stands : Stands (state_of h) (asked wants same kinds before.query) search.front
+  pub more : before.front.explored ≤ search.front.explored
   pub progress : IsProgress (state_of h) (asked wants same kinds before.query) before search p
 
 -- the answer that the unit's search found has taken its place

@@ -5,7 +5,7 @@ ghost use Rattle.sg_base.specs.List.{IsRising};
 ghost use Rattle.sg_state.specs.Need.{need_cmp};
 ghost use Rattle.sg_unit.specs.declared.op.Op.TheVariants.{Advance};
 ghost use Rattle.sg_waits.specs.declared.status.Status.TheVariants.{Runs, Waits as WaitsFor};
-ghost use Rattle.sg_waits.specs.Waits.{IsStuck, status_at};
+ghost use Rattle.sg_waits.specs.Waits.{AllWait, status_at};
 ghost use Rattle.sg_core.specs.Advance.{waiting_reply, ShowsWhere};
 ghost use Rattle.sg_core.specs.Core.{IsCore, MayDo, Applies, run};
 ghost use Rattle.sg_core.specs.Showing.{HaveHolders};
@@ -48,7 +48,7 @@ fn block<I: Instance>(
     requires units { length waits.old ≤ units }
     requires held { HaveHolders held.now (slice_set waits.old unit (WaitsFor needs.now)) None }
     ensures waits { OnOk result (waits.new ≡ slice_set waits.old unit (WaitsFor needs.now)) }
-    ensures stuck { IfOk result (λ b. IsTrue b ↔ IsStuck (slice_set waits.old unit (WaitsFor needs.now))) }
+    ensures stuck { IfOk result (λ b. IsTrue b ↔ AllWait (slice_set waits.old unit (WaitsFor needs.now))) }
     ensures shown { IfOk result (ShowsWhere held.now (slice_set waits.old unit (WaitsFor needs.now)) shown.old shown.new) }
     ensures err { OnErr result ((waits.new ≡ waits.old) × (shown.new ≡ shown.old)) }
 {
@@ -131,7 +131,7 @@ impl<I: Instance, R: Drop> Core<I, R> {
             }
             Progress::Blocked => {
                 let needs = needs_of(&self.asks, unit);
-                let units = self.opening.units;
+                let units = self.opening.units();
                 let stuck = block(
                     self.alloc,
                     &self.held,

@@ -2,9 +2,10 @@ ghost use Rattle.std.specs.Prelude.{◌≡◌, [], IfOk, length};
 ghost use Rattle.sg_core.specs.Core.{IsCore};
 
 use crate::ask::Ask;
+use crate::begun::Begun;
 use sg_base::Instance;
 use sg_query::KindTable;
-use sg_state::{Held, Opening};
+use sg_state::Held;
 use sg_unit::Entry;
 use sg_waits::{Shown, Waits};
 use std::alloc::Global;
@@ -15,7 +16,7 @@ use std::marker::Model;
 #[derive(Drop)]
 pub struct Core<I: Instance, R> {
     pub(crate) alloc: Global,
-    pub(crate) opening: Opening<I::Datum>,
+    pub(crate) opening: Begun<I::Datum>,
     pub(crate) kinds: KindTable,
     pub(crate) held: Held<I>,
     pub(crate) waits: Waits,
@@ -28,18 +29,18 @@ pub struct Core<I: Instance, R> {
 impl<I: Instance, R> Model for Core<I, R> {
     ghost use Rattle.sg_core.specs.Core.{CoreOf};
     ghost use Rattle.sg_core.specs.Kept.{IsKept};
-    ghost use Rattle.sg_state.specs.Opening.{opened_of, opening_of};
+    ghost use Rattle.sg_state.specs.Opening.{opened_of};
     ghost use Rattle.sg_unit.specs.Unit.{setting_of};
-    ghost use Rattle.sg_expr.specs.contracts.expr.Expr as e;
+    ghost use Rattle.sg_query.specs.Query.{coded_kind};
     ghost use Rattle.std.specs.Coded.{codes};
 
     ghost Value = { CoreOf I R I.Datum I.Pred };
 
-    ghost coded = { Prim.hlevel (codes, e.the_row.coded) };
+    ghost coded = { Prim.hlevel (codes, coded_kind) };
 
-    ghost view = { λ c. record { opening = opened_of (opening_of c.opening); kinds = c.kinds; log = c.log.items } };
+    ghost view = { λ c. record { opening = opened_of c.opening; kinds = c.kinds; log = c.log.items } };
 
-    ghost invariant = { λ c. IsKept (setting_of I.wants I.same_datum (opened_of (opening_of c.opening)) c.kinds) c.held c.waits c.asks.items c.ends.items c.shown c.log.items };
+    ghost invariant = { λ c. IsKept (setting_of I.wants I.same_datum (opened_of c.opening) c.kinds) c.held c.waits c.asks.items c.ends.items c.shown c.log.items };
 }
 
 impl<I: Instance, R> Core<I, R> {

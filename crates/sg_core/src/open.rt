@@ -4,8 +4,8 @@ ghost use Rattle.sg_core.specs.declared.ask.Ask.TheVariants.{Nothing};
 ghost use Rattle.sg_state.specs.Opening.{IsSoundOpening, opening_of, opened_of};
 
 use crate::ask::Ask;
+use crate::begun::Begun;
 use crate::machine::Core;
-use crate::opening_copy::copied;
 use sg_base::Instance;
 use sg_query::KindTable;
 use sg_state::{Held, Opening};
@@ -43,20 +43,22 @@ fn no_ends(alloc: Global, units: u32) -> Result<Vec<Option<usize>>, AllocError>
 impl<I: Instance, R: Drop> Core<I, R> {
     /// A run that begins with a sound opening, by this table of kinds: each unit is live, none waits, and none asks.
     ///
-    /// Costs a copy of the opening, with each datum, and what the held graph of it costs (`Held::open`).
+    /// Costs what the held graph of the opening costs (`Held::open`), and a place for each unit. The opening is moved into the held
+    /// graph, and no second copy of it is kept.
     pub fn open(alloc: Global, o: Opening<I::Datum>, t: KindTable) -> Result<Core<I, R>, AllocError>
         requires sound { IsSoundOpening (opening_of o) }
         ensures opened { IfOk result (λ c. c ≡ record { opening = opened_of (opening_of o); kinds = t; log = [] }) }
         ensures core { IfOk result (IsCore I.wants I.same_datum) }
     {
-        let copy = copied::<I>(alloc, &o)?;
-        let held = Held::open(alloc, copy)?;
-        let waits = Waits::open(alloc, o.units)?;
-        let asks = no_asks(alloc, o.units)?;
-        let ends = no_ends(alloc, o.units)?;
+        let opening = Begun::with(&o);
+        let units = o.units;
+        let held = Held::open(alloc, o)?;
+        let waits = Waits::open(alloc, units)?;
+        let asks = no_asks(alloc, units)?;
+        let ends = no_ends(alloc, units)?;
         Ok(Core {
             alloc,
-            opening: o,
+            opening,
             kinds: t,
             held,
             waits,

@@ -8,7 +8,7 @@ ghost use Rattle.sg_state.specs.declared.need.Need.{Need as NeedOf};
 ghost use Rattle.sg_state.specs.Need.{need_cmp};
 ghost use Rattle.sg_unit.specs.declared.op.Op.TheVariants.{End as EndOf};
 ghost use Rattle.sg_unit.specs.declared.reply.Reply.{Reply as ReplyOf};
-ghost use Rattle.sg_unit.specs.Waiting.{IsStuck, Needs};
+ghost use Rattle.sg_unit.specs.Waiting.{IsStuck, WaitsOn};
 
 use crate::machine::Core;
 use crate::phase::Phase;
@@ -53,7 +53,7 @@ impl<I: Instance, R: Drop> Core<I, R> {
     pub fn units(&self) -> u32
         ensures { result ≡ length self.now.opening.made }
     {
-        self.opening.units
+        self.opening.units()
     }
 
     /// Whether the run goes on: some unit is live and does not wait; no unit is live; or some unit is live and each live unit
@@ -92,7 +92,7 @@ impl<I: Instance, R: Drop> Core<I, R> {
     /// where it does not wait. Takes constant time.
     pub fn needs(&self, unit: u32) -> &[Need]
         ensures rising { IsRising need_cmp result.now }
-        ensures exact { (n : NeedOf) → (Contains result.now n) ↔ (Needs (setting I.wants I.same_datum self.now) (run I.wants I.same_datum self.now) unit n) }
+        ensures exact { (n : NeedOf) → (Contains result.now n) ↔ (WaitsOn (setting I.wants I.same_datum self.now) (run I.wants I.same_datum self.now) unit n) }
     {
         self.waits.needs(unit)
     }

@@ -62,6 +62,8 @@ impl Instance for Numbers {
       transitive = λ a b c h k. Prim.grind (arith, nat_tests);
     } };
 
+    ghost one_key = { λ a b h. Prim.grind (arith, nat_tests) };
+
     ghost keyed = { λ p d k e t. Prim.grind (arith, nat_tests) };
 }
 
@@ -199,7 +201,8 @@ fn table_of(alloc: Global, expr: Expr) -> Result<Option<KindTable>, AllocError> 
     }
     let mut kinds = Vec::new(alloc);
     kinds.push(Kind { expr, order })?;
-    Ok(Some(KindTable::new(kinds)))
+    let table = KindTable::new(alloc, kinds)?;
+    Ok(Some(table))
 }
 
 /// Two scopes, of which each unit holds one's row.
@@ -208,6 +211,18 @@ fn two_rows(alloc: Global) -> Result<Opening<u64>, AllocError> {
         scopes: vec![in alloc; FIRST, SECOND]?,
         edges: Vec::new(alloc),
         given: Vec::new(alloc),
+        row_holds: vec![in alloc; (0, FIRST, Label::new(0)), (1, SECOND, Label::new(0))]?,
+        datum_holds: Vec::new(alloc),
+        units: 2,
+    })
+}
+
+/// Two scopes, of which each unit holds one's row, and the first has the datum 7.
+fn two_rows_and_a_datum(alloc: Global) -> Result<Opening<u64>, AllocError> {
+    Ok(Opening {
+        scopes: vec![in alloc; FIRST, SECOND]?,
+        edges: Vec::new(alloc),
+        given: vec![in alloc; (FIRST, 7)]?,
         row_holds: vec![in alloc; (0, FIRST, Label::new(0)), (1, SECOND, Label::new(0))]?,
         datum_holds: Vec::new(alloc),
         units: 2,
@@ -431,6 +446,30 @@ fn a_closed_row_lets_its_asker_go_on(rt: HostRuntime) -> Result<(), Fail> {
         plainly(rt.alloc(), &core, SECOND)?,
         Some(Told::Paths(0, None))
     );
+    Ok(())
+}
+
+#[test]
+fn an_answer_stands_when_all_have_ended(rt: HostRuntime) -> Result<(), Fail> {
+    let o = two_rows_and_a_datum(rt.alloc())?;
+    let Some(mut core) = core_of(rt.alloc(), o, Expr::One(Label::new(0)))? else {
+        return Err("not sound".into());
+    };
+    let done = Some(Told::Done(0, None));
+    let one_path = Some(Told::Paths(1, Some((1, 7))));
+    let table = [
+        (0, Act::Ask(SECOND), Some(Told::Moved)),
+        (0, Act::Advance, Some(Told::Suspended)),
+        (1, Act::Link(SECOND, FIRST), done),
+        (1, Act::End(9), Some(Told::Done(1, Some(0)))),
+        (0, Act::Advance, Some(Told::Ready)),
+        (0, Act::Take, one_path),
+        (0, Act::Link(FIRST, SECOND), done),
+        (0, Act::End(8), done),
+    ];
+    assert_eq!(rt; acts(&mut core, &table)?, None);
+    assert_eq!(rt; core.phase(), Phase::Ended);
+    assert_eq!(rt; plainly(rt.alloc(), &core, SECOND)?, one_path);
     Ok(())
 }
 

@@ -9,23 +9,20 @@ use Rattle.sg_base.specs.List.{IsDistinct}
 use Rattle.sg_base.specs.Path.{end_of, word_of, reached_by}
 use Rattle.sg_base.specs.State.{State, IsOpen, Extends, PassesClosed, IsClosedPath}
 use Rattle.sg_base.proofs.Finite.{Distinct-left}
-use Rattle.sg_expr.specs.declared.expr.Expr.{Expr}
+use Rattle.sg_expr.specs.Tree.{ExprOf}
 use Rattle.sg_expr.specs.Word.{In, IsViable}
 use Rattle.sg_query.specs.Query.{Asked}
 use Rattle.sg_query.specs.State.{NothingBlocks}
+use Rattle.sg_query.proofs.Alike.{Closed-append}
 use Rattle.sg_query.proofs.Paths.{word_of-append, end_of-append, front_distinct, end_in, Walk-append}
 
 module _ {D : Type 0} where
-  pub Closed-append : (h : State D) (s : Scope) (ps qs : List Step) → PassesClosed h s ps → PassesClosed h (end_of s ps) qs → PassesClosed h s (ps ++ qs)
-  Closed-append h s [] qs a b = b
-  Closed-append h s (p ∷ ps) qs a b = (a.0, Closed-append h p.to ps qs a.1 b)
-
   -- a walk of the state is a walk of what it grew into
   pub Walk-grows : (h : State D) (g : GraphOf D) → Extends h g → (s : Scope) (ps : List Step) → IsWalk h.graph s ps → IsWalk g s ps
   Walk-grows h g x s [] w = tt
   Walk-grows h g x s (p ∷ ps) w = (x.edges s p.label p.to w.0, Walk-grows h g x p.to ps w.1)
 
-pub viable_front : (e : Expr) (ps qs : List Step) (l : ℕ) → IsViable e (word_of ps ++ (l ∷ word_of qs)) → IsViable e (word_of ps ++ l ∷ [])
+pub viable_front : (e : ExprOf) (ps qs : List Step) (l : ℕ) → IsViable e (word_of ps ++ (l ∷ word_of qs)) → IsViable e (word_of ps ++ l ∷ [])
 viable_front e ps qs l v =
     (word_of qs ++ v.0, subst (In e) (append_assoc (word_of ps) (l ∷ word_of qs) v.0 ∙ sym (append_assoc (word_of ps) (l ∷ []) (word_of qs ++ v.0))) v.1)
 

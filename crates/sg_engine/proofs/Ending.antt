@@ -9,8 +9,9 @@ use Rattle.sg_base.specs.Label.{Word}
 use Rattle.sg_base.specs.List.{IsDistinct, MoreThan}
 use Rattle.sg_base.specs.Path.{end_of, word_of, reached_by}
 use Rattle.sg_base.specs.State.{State, IsOpen, IsUnset, Extends, PassesClosed, IsClosedPath}
+use Rattle.sg_base.proofs.Edges.{one_datum}
 use Rattle.sg_base.proofs.Finite.{nothing_in, Distinct-last, MoreThan-map, MoreThan-count, no_more, each_from}
-use Rattle.sg_expr.specs.declared.expr.Expr.{Expr}
+use Rattle.sg_expr.specs.Tree.{ExprOf}
 use Rattle.sg_expr.specs.Word.{In, IsViable, IsContinuable}
 use Rattle.sg_query.specs.declared.found.Found.{Found}
 use Rattle.sg_query.specs.Answer.{most_paths}
@@ -20,13 +21,10 @@ use Rattle.sg_query.specs.Walk.{IsArrived, GoesOnFrom}
 use Rattle.sg_query.proofs.Paths.{word_of-append, end_of-append, reached_by-append, front_distinct}
 use Rattle.sg_query.proofs.Alike.{viable_from_in}
 use Rattle.sg_engine.proofs.Closed.{viable_front, to_closed}
-use Rattle.sg_engine.specs.Front.{Front, path_of, IsOffered, IsBlocked, GoesOnAmong, StandsAfter, AllBlocked}
+use Rattle.sg_engine.specs.Front.{Front, path_of, IsMet, IsOffered, IsBlocked, GoesOnAmong, StandsAfter, AllBlocked}
 
-pub goes_viable : (e : Expr) (w : Word) → IsContinuable e w → IsViable e w
+pub goes_viable : (e : ExprOf) (w : Word) → IsContinuable e w → IsViable e w
 goes_viable e w c = (c.0, c.2)
-
-pub viable_before : (e : Expr) (w : Word) (l : ℕ) → IsViable e (w ++ l ∷ []) → IsViable e w
-viable_before e w l v = (l ∷ v.0, subst (In e) (append_assoc w (l ∷ []) v.0) v.1)
 
 pub itself : {D : Type 0} (h : State D) → Extends h h.graph
 itself h = record { scopes = λ s c. c; edges = λ s l t c. c; given = λ s d c. c; further_edges = λ s l t c. inl c; further_given = λ s d c. inl c }
@@ -63,31 +61,40 @@ module _ {D : Type 0} (h : State D) (q : Asked D) (f : Front D) (done : List Ite
     shut_done ps l c v shut =
         elim ((s.offered (next ps l)).1 (c, v)) [ inl d ↦ d | inr left ↦ absurd (shut (stuck (next ps l) left)) ]
 
-    all_from : (front rest : List Step) → Contains f.paths front → IsWalk h.graph (end_of q.start front) rest → PassesClosed h (end_of q.start front) rest → IsDistinct (q.start ∷ reached_by (front ++ rest)) → IsViable q.expr (word_of front ++ word_of rest) → Contains f.paths (front ++ rest)
-    all_from front [] c w p d v = rw (append-nil front) c
-    all_from front (x ∷ rest) c w p d v =
+    -- a path behind which a word goes on was found where it was met
+    goes_met : (ps : List Step) → IsContinuable q.expr (word_of ps) → IsMet h q f.paths ps → Contains f.paths ps
+    goes_met ps g m = elim m [ inl c ↦ c | inr k ↦ absurd (k.0 g) ]
+
+    all_from : (front rest : List Step) → IsMet h q f.paths front → IsWalk h.graph (end_of q.start front) rest → PassesClosed h (end_of q.start front) rest → IsDistinct (q.start ∷ reached_by (front ++ rest)) → IsViable q.expr (word_of front ++ word_of rest) → IsMet h q f.paths (front ++ rest)
+    all_from front [] m w p d v = rw (append-nil front) m
+    all_from front (x ∷ rest) m w p d v =
+        let c : Contains f.paths front = goes_met front (x.label ∷ (word_of rest ++ v.0), (λ e. cc e), subst (In q.expr) (append_assoc (word_of front) (x.label ∷ word_of rest) v.0) v.1) m in
         let at : IsViable q.expr (word_of front ++ x.label ∷ []) = viable_front q.expr front rest x.label v in
         let same : (front ++ x ∷ []) ++ rest ≡ front ++ x ∷ rest = append_assoc front (x ∷ []) rest in
         let distinct : IsDistinct (q.start ∷ reached_by ((front ++ x ∷ []) ++ rest)) = subst (λ (t : List Step). IsDistinct (q.start ∷ reached_by t)) (sym same) d in
         let fresh : Contains (q.start ∷ reached_by front) x.to → ⊥ =
         Distinct-last (q.start ∷ reached_by front) x.to (subst (λ (t : List Scope). IsDistinct (q.start ∷ t)) (reached_by-append front (x ∷ [])) (front_distinct q.start (front ++ x ∷ []) rest distinct)) in
-        let further : Contains f.paths (front ++ x ∷ []) = (s.explored (next front x.label) (shut_done front x.label c at p.0)).1 x.to w.0 fresh in
+        let further : IsMet h q f.paths (front ++ x ∷ []) = (s.explored (next front x.label) (shut_done front x.label c at p.0)).1 x.to w.0 fresh in
         let end_is : x.to ≡ end_of q.start (front ++ x ∷ []) = sym (end_of-append q.start front (x ∷ [])) in
         let viable : IsViable q.expr (word_of (front ++ x ∷ []) ++ word_of rest) =
         subst (IsViable q.expr) (sym (ap (λ (t : Word). t ++ word_of rest) (word_of-append front (x ∷ [])) ∙ append_assoc (word_of front) (x.label ∷ []) (word_of rest))) v in
-        subst (λ (t : List Step). Contains f.paths t) same
+        subst (λ (t : List Step). IsMet h q f.paths t) same
         (all_from (front ++ x ∷ []) rest further (subst (λ (t : Scope). IsWalk h.graph t rest) end_is w.1) (subst (λ (t : Scope). PassesClosed h t rest) end_is p.1) distinct viable)
 
-    -- each closed path that the query follows was found
-    pub all_paths : (ps : List Step) → IsClosedPath h q.start ps → IsViable q.expr (word_of ps) → Contains f.paths ps
-    all_paths ps c v = all_from [] ps s.root (c.0).0 c.1 (c.0).1 v
+    -- each closed path that the query follows was met
+    pub all_met : (ps : List Step) → IsClosedPath h q.start ps → IsViable q.expr (word_of ps) → IsMet h q f.paths ps
+    all_met ps c v = all_from [] ps (inl s.root) (c.0).0 c.1 (c.0).1 v
+
+    -- and found where a word goes on behind it
+    pub all_paths : (ps : List Step) → IsClosedPath h q.start ps → IsContinuable q.expr (word_of ps) → Contains f.paths ps
+    all_paths ps c g = goes_met ps g (all_met ps c (goes_viable q.expr (word_of ps) g))
 
     -- the rows that block the query are those of the items left, and so are the data
     pub row_needs : (t : Scope) (l : ℕ) → (RowBlocks h q t l) ↔ ((ps : List Step) × Contains f.left (next ps l) × (end_of q.start ps ≡ t))
     row_needs t l = (
       (λ b. (
         b.0,
-        elim ((s.offered (next b.0 l)).1 (all_paths b.0 b.1 (viable_before q.expr (word_of b.0) l b.3), b.3)) [
+        elim ((s.offered (next b.0 l)).1 (all_paths b.0 b.1 (l ∷ (b.3).0, (λ e. cc e), subst (In q.expr) (append_assoc (word_of b.0) (l ∷ []) (b.3).0) (b.3).1), b.3)) [
           | inl d ↦ absurd ((s.explored (next b.0 l) d).0 (subst (λ (u : Scope). IsOpen h u l) (sym b.2) b.4))
           | inr left ↦ left
         ],
@@ -100,9 +107,12 @@ module _ {D : Type 0} (h : State D) (q : Asked D) (f : Front D) (done : List Ite
     datum_needs t = (
       (λ b. (
         b.0,
-        elim ((s.offered (whole b.0)).1 (all_paths b.0 b.1 (viable_from_in q.expr (word_of b.0) b.3), b.3)) [
-          | inl d ↦ absurd ((s.explored (whole b.0) d).0 (subst (IsUnset h) (sym b.2) b.4))
-          | inr left ↦ left
+        elim (all_met b.0 b.1 (viable_from_in q.expr (word_of b.0) b.3)) [
+          | inl c ↦ elim ((s.offered (whole b.0)).1 (c, b.3)) [
+            | inl d ↦ absurd ((s.explored (whole b.0) d).0 (subst (IsUnset h) (sym b.2) b.4))
+            | inr left ↦ left
+          ]
+          | inr k ↦ absurd ((k.1).0 (subst (IsUnset h) (sym b.2) b.4))
         ],
         b.2,
       )),
@@ -112,7 +122,7 @@ module _ {D : Type 0} (h : State D) (q : Asked D) (f : Front D) (done : List Ite
     few_closed : f.going ≤ most_paths → MoreThan most_paths (GoesOnClosed h q) → ⊥
     few_closed few m =
         no_more most_paths f.going (GoesOnAmong q.expr f.paths) s.going few
-        (MoreThan-map most_paths (GoesOnClosed h q) (GoesOnAmong q.expr f.paths) (λ ps c. (all_paths ps c.0 (goes_viable q.expr (word_of ps) c.1), c.1)) m)
+        (MoreThan-map most_paths (GoesOnClosed h q) (GoesOnAmong q.expr f.paths) (λ ps c. (all_paths ps c.0 c.1, c.1)) m)
 
     blocks_some : NothingBlocks h q → (x : Item) → Contains f.left x → ⊥
     blocks_some free (next ps l) c = free.0 (end_of q.start ps) l ((row_needs (end_of q.start ps) l).1 (ps, c, refl))
@@ -148,8 +158,13 @@ module _ {D : Type 0} (h : State D) (q : Asked D) (f : Front D) (done : List Ite
         (λ c. let k = s.found y c in (k.0, ((k.1).path, ((k.1).word, (k.1).datum, (k.1).wanted)))),
         (λ a.
             let v : IsViable q.expr (word_of y.path.steps) = viable_from_in q.expr (word_of y.path.steps) ((a.1).1).0 in
-            elim ((s.offered (whole y.path.steps)).1 (all_paths no_stuck y.path.steps (own_closed y.path.steps (a.1).0 v) v, ((a.1).1).0)) [
-              | inl d ↦ (s.explored (whole y.path.steps) d).1 y a.0 refl (((a.1).1).1) (((a.1).1).2)
-              | inr left ↦ absurd (nothing_left (whole y.path.steps) left)
+            elim (all_met no_stuck y.path.steps (own_closed y.path.steps (a.1).0 v) v) [
+              | inl c ↦ elim ((s.offered (whole y.path.steps)).1 (c, ((a.1).1).0)) [
+                | inl d ↦ (s.explored (whole y.path.steps) d).1 y a.0 refl (((a.1).1).1) (((a.1).1).2)
+                | inr left ↦ absurd (nothing_left (whole y.path.steps) left)
+              ]
+              | inr k ↦
+                  let here : (k.1).1.0 ≡ y.datum = one_datum h.graph.given ok.data_rise (end_of q.start y.path.steps) (k.1).1.0 y.datum (k.1).1.1 (((a.1).1).1) in
+                  absurd (cc (ap q.wants here, (k.1).1.2, ((a.1).1).2))
             ]),
       )

@@ -11,7 +11,7 @@ use Rattle.sg_base.specs.Path.{end_of, word_of, reached_by}
 use Rattle.sg_base.specs.State.{State, IsOpen, IsUnset, IsClosedPath}
 use Rattle.sg_base.proofs.Edges.{row_from, row_to, Distinct-row}
 use Rattle.sg_base.proofs.Finite.{nothing_in, single, Contains-head, Contains-cons, Contains-tail, Distinct-append, Distinct-left, map-Contains, Contains-map, Distinct-map, filter-Contains, Contains-filter, Distinct-filter, IsCount-add, IsCount-none}
-use Rattle.sg_expr.specs.declared.expr.Expr.{Expr}
+use Rattle.sg_expr.specs.Tree.{ExprOf}
 use Rattle.sg_expr.specs.Word.{In, IsContinuable}
 use Rattle.sg_query.specs.declared.found.Found.{Found}
 use Rattle.sg_query.specs.Answer.{Reaches}
@@ -19,8 +19,8 @@ use Rattle.sg_query.specs.Query.{Asked}
 use Rattle.sg_query.specs.State.{Item, next, whole}
 use Rattle.sg_query.specs.Steps.{is_fresh}
 use Rattle.sg_query.proofs.Paths.{snoc_not_nil, snoc_same, path_push, fresh_from, fresh_to}
-use Rattle.sg_engine.proofs.Closed.{Closed-append}
-use Rattle.sg_engine.specs.Front.{Front, path_of, IsOffered, step_to, IsExplored, GoesOnAmong, StandsAfter}
+use Rattle.sg_query.proofs.Alike.{Closed-append}
+use Rattle.sg_engine.specs.Front.{Front, path_of, IsOffered, step_to, AreTargets, IsExplored, GoesOnAmong, StandsAfter}
 use Rattle.sg_engine.specs.Growth.{Gains, with_left, one_explored, with_found, no_front, into_targets}
 use Rattle.sg_engine.proofs.Keeping.{Keeps-from, Keeps-to, Keeps-distinct, Keeps-append}
 
@@ -66,7 +66,7 @@ module _ {X : Type 0} where
 
 -- ---- gains
 
-module _ {D : Type 0} (e : Expr) where
+module _ {D : Type 0} (e : ExprOf) where
   pub gains_none : (f : Front D) → Gains e f f []
   gains_none f =
       record {
@@ -109,35 +109,40 @@ module _ {D : Type 0} (e : Expr) where
 -- ---- one item explored
 
 explored_more : {D : Type 0} (h : State D) (q : Asked D) (paths paths' : List (List Step)) (found found' : List (Found D)) → ((ps : List Step) → Contains paths ps → Contains paths' ps) → ((f : Found D) → Contains found f → Contains found' f) → (x : Item) → IsExplored h q paths found x → IsExplored h q paths' found' x
-explored_more h q paths paths' found found' a b (next ps l) e = (e.0, λ t k n. a (ps ++ step_to l t ∷ []) (e.1 t k n))
+explored_more h q paths paths' found found' a b (next ps l) e = (
+  e.0,
+  λ t k n. elim (e.1 t k n) [ inl c ↦ inl (a (ps ++ step_to l t ∷ []) c) | inr m ↦ inr m ],
+)
 explored_more h q paths paths' found found' a b (whole ps) e = (e.0, λ f s p k w. b f (e.1 f s p k w))
 
--- the path with one more step into a row
-abbrev into : {D : Type 0} → GraphOf D → Scope → List Step → ℕ → List (List Step)
-into g start ps l = into_targets start ps l (row_of g (end_of start ps) l)
+-- the targets of a row are enough to look at
+pub row_targets : {D : Type 0} (h : State D) (q : Asked D) (ps : List Step) (l : ℕ) → IsGraph h.graph → AreTargets h q ps l (row_of h.graph (end_of q.start ps) l)
+row_targets h q ps l ok = record {
+  from = λ t c. row_from h.graph (end_of q.start ps) l t c;
+  once = Distinct-row h.graph ok (end_of q.start ps) l;
+  all = λ t e. inl (row_to h.graph (end_of q.start ps) l t e);
+}
 
-module _ {D : Type 0} (g : GraphOf D) (start : Scope) (ps : List Step) (l : ℕ) where
-  into_to : (t : Scope) → HasEdge g (end_of start ps) l t → (Contains (start ∷ reached_by ps) t → ⊥) → Contains (into g start ps l) (ps ++ step_to l t ∷ [])
-  into_to t e n =
-      map-Contains (λ (t : Scope). ps ++ step_to l t ∷ []) (filter (is_fresh start ps) (row_of g (end_of start ps) l)) t
-      (filter-Contains (is_fresh start ps) (row_of g (end_of start ps) l) t (row_to g (end_of start ps) l t e) (fresh_to start ps t n))
+-- the path with one more step to targets
+module _ (start : Scope) (ps : List Step) (l : ℕ) (ts : List Scope) where
+  into_to : (t : Scope) → Contains ts t → (Contains (start ∷ reached_by ps) t → ⊥) → Contains (into_targets start ps l ts) (ps ++ step_to l t ∷ [])
+  into_to t c n = map-Contains (λ (t : Scope). ps ++ step_to l t ∷ []) (filter (is_fresh start ps) ts) t (filter-Contains (is_fresh start ps) ts t c (fresh_to start ps t n))
 
-  into_from : (qs : List Step) → Contains (into g start ps l) qs → (t : Scope) × HasEdge g (end_of start ps) l t × (is_fresh start ps t ≡ true) × (qs ≡ ps ++ step_to l t ∷ [])
+  pub into_from : (qs : List Step) → Contains (into_targets start ps l ts) qs → (t : Scope) × Contains ts t × (is_fresh start ps t ≡ true) × (qs ≡ ps ++ step_to l t ∷ [])
   into_from qs c =
-      let k = Contains-map (λ (t : Scope). ps ++ step_to l t ∷ []) (filter (is_fresh start ps) (row_of g (end_of start ps) l)) qs c in
-      let m = Contains-filter (is_fresh start ps) (row_of g (end_of start ps) l) k.0 k.1 in
-      (k.0, row_from g (end_of start ps) l k.0 m.0, m.1, k.2)
+      let k = Contains-map (λ (t : Scope). ps ++ step_to l t ∷ []) (filter (is_fresh start ps) ts) qs c in
+      let m = Contains-filter (is_fresh start ps) ts k.0 k.1 in
+      (k.0, m.0, m.1, k.2)
 
-  into_distinct : IsGraph g → IsDistinct (into g start ps l)
-  into_distinct ok =
-      Distinct-map (λ (t : Scope). ps ++ step_to l t ∷ []) (filter (is_fresh start ps) (row_of g (end_of start ps) l))
-      (Distinct-filter (is_fresh start ps) (row_of g (end_of start ps) l) (Distinct-row g ok (end_of start ps) l))
+  into_distinct : IsDistinct ts → IsDistinct (into_targets start ps l ts)
+  into_distinct d =
+      Distinct-map (λ (t : Scope). ps ++ step_to l t ∷ []) (filter (is_fresh start ps) ts) (Distinct-filter (is_fresh start ps) ts d)
       (λ a b k m same. ap (λ (x : Step). x.to) (snoc_same ps ps (step_to l a) (step_to l b) same).1)
 
 module _ {D : Type 0} (h : State D) (q : Asked D) (f : Front D) (done : List Item) (s : StandsAfter h q f done) (b r : List Item) where
-  module _ (ps : List Step) (l : ℕ) (at : f.left ≡ b ++ next ps l ∷ r) (shut : IsOpen h (end_of q.start ps) l → ⊥) (ok : IsGraph h.graph) (now : Front D) (gains : Gains q.expr (one_explored (with_left f (b ++ r))) now (into h.graph q.start ps l)) where
+  module _ (ps : List Step) (l : ℕ) (at : f.left ≡ b ++ next ps l ∷ r) (shut : IsOpen h (end_of q.start ps) l → ⊥) (ts : List Scope) (targets : AreTargets h q ps l ts) (now : Front D) (gains : Gains q.expr (one_explored (with_left f (b ++ r))) now (into_targets q.start ps l ts)) where
     abbrev more : List (List Step)
-    more = into h.graph q.start ps l
+    more = into_targets q.start ps l ts
 
     here : Contains f.left (next ps l)
     here = subst (λ (t : List Item). Contains t (next ps l)) (sym at) (cut_has b r (next ps l))
@@ -153,19 +158,19 @@ module _ {D : Type 0} (h : State D) (q : Asked D) (f : Front D) (done : List Ite
 
     new_path : (qs : List Step) → Contains f.paths qs → Contains more qs → ⊥
     new_path qs c k =
-        let i = into_from h.graph q.start ps l qs k in
+        let i = into_from q.start ps l ts qs k in
         s.apart (next ps l) (s.entered ps (step_to l i.0) (subst (λ (t : List Step). Contains f.paths t) i.3 c)) here
 
     closed_new : (qs : List Step) → Contains more qs → IsClosedPath h q.start qs
     closed_new qs k =
-        let i = into_from h.graph q.start ps l qs k in
+        let i = into_from q.start ps l ts qs k in
         let c : IsClosedPath h q.start ps = s.closed ps parent in
         subst (IsClosedPath h q.start) (sym i.3)
-        (path_push h.graph q.start ps (step_to l i.0) c.0 i.1 (fresh_from q.start ps i.0 i.2), Closed-append h q.start ps (step_to l i.0 ∷ []) c.1 (shut, tt))
+        (path_push h.graph q.start ps (step_to l i.0) c.0 (targets.from i.0 i.1) (fresh_from q.start ps i.0 i.2), Closed-append h q.start ps (step_to l i.0 ∷ []) c.1 (shut, tt))
 
     entered_new : (qs : List Step) (x : Step) → Contains more (qs ++ x ∷ []) → Contains (next ps l ∷ done) (next qs x.label)
     entered_new qs x k =
-        let i = into_from h.graph q.start ps l (qs ++ x ∷ []) k in
+        let i = into_from q.start ps l ts (qs ++ x ∷ []) k in
         let e : (qs ≡ ps) × (x ≡ step_to l i.0) = snoc_same qs ps x (step_to l i.0) i.3 in
         let same : next qs x.label ≡ next ps l = ap (λ (t : List Step). next t x.label) e.0 ∙ ap (λ (y : Step). next ps y.label) e.1 in
         subst (λ (t : Item). Contains (next ps l ∷ done) t) (sym same) (Contains-head (next ps l) done)
@@ -196,7 +201,7 @@ module _ {D : Type 0} (h : State D) (q : Asked D) (f : Front D) (done : List Ite
         record {
           root = old_path [] s.root;
           closed = λ qs c. elim (both qs c) [ inl k ↦ s.closed qs k | inr k ↦ closed_new qs k ];
-          once = subst (λ (t : List (List Step)). IsDistinct t) (sym gains.paths) (Distinct-append f.paths more s.once (into_distinct h.graph q.start ps l ok) new_path);
+          once = subst (λ (t : List (List Step)). IsDistinct t) (sym gains.paths) (Distinct-append f.paths more s.once (into_distinct q.start ps l ts targets.once) new_path);
           entered = λ qs x c. elim (both (qs ++ x ∷ []) c) [
             | inl k ↦ Contains-tail (next ps l) (next qs x.label) done (s.entered qs x k)
             | inr k ↦ entered_new qs x k
@@ -225,7 +230,7 @@ module _ {D : Type 0} (h : State D) (q : Asked D) (f : Front D) (done : List Ite
           );
           done_once = ((λ c. s.apart (next ps l) c here), s.done_once);
           left_once = subst (λ (t : List Item). IsDistinct t) (sym gains.items.1)
-              (Distinct-append (b ++ r) news (Distinct-cut b r (next ps l) left_distinct) (gains.items.2 (into_distinct h.graph q.start ps l ok))
+              (Distinct-append (b ++ r) news (Distinct-cut b r (next ps l) left_distinct) (gains.items.2 (into_distinct q.start ps l ts targets.once))
               (λ x k m. new_path (path_of x) ((s.offered x).0 (inr (was_left x k))).0 ((gains.items.3 x).0 m).0));
           apart = λ x d c. elim (Contains-cons (next ps l) x done d) [
             | inl e ↦ elim (left_cases x c) [
@@ -238,7 +243,7 @@ module _ {D : Type 0} (h : State D) (q : Asked D) (f : Front D) (done : List Ite
             ]
           ];
           explored = λ x d. elim (Contains-cons (next ps l) x done d) [
-            | inl e ↦ subst (λ (t : Item). IsExplored h q now.paths now.found t) (sym e) (shut, λ t k n. more_path (ps ++ step_to l t ∷ []) (into_to h.graph q.start ps l t k n))
+            | inl e ↦ subst (λ (t : Item). IsExplored h q now.paths now.found t) (sym e) (shut, λ t k n. elim (targets.all t k) [ inl c ↦ inl (more_path (ps ++ step_to l t ∷ []) (into_to q.start ps l ts t c n)) | inr m ↦ inr m ])
             | inr m ↦ explored_more h q f.paths now.paths f.found now.found old_path (λ y c. subst (λ (t : List (Found D)). Contains t y) (sym gains.found) c) x (s.explored x m)
           ];
           found_once = subst (λ (t : List (Found D)). IsDistinct (map (λ y. y.path) t)) (sym gains.found) s.found_once;
@@ -247,7 +252,7 @@ module _ {D : Type 0} (h : State D) (q : Asked D) (f : Front D) (done : List Ite
           count = omega (arith, s.count, gains.explored);
           going = subst (λ (n : ℕ). IsCount n (GoesOnAmong q.expr now.paths)) (sym gains.goers.1)
               (IsCount-add f.going (GoesOnAmong q.expr f.paths) (GoesOnAmong q.expr more) (GoesOnAmong q.expr now.paths) gains.goers.0 s.going
-              (Keeps-distinct (λ (ps : List Step). IsContinuable q.expr (word_of ps)) more gains.goers.0 gains.goers.2 (into_distinct h.graph q.start ps l ok))
+              (Keeps-distinct (λ (ps : List Step). IsContinuable q.expr (word_of ps)) more gains.goers.0 gains.goers.2 (into_distinct q.start ps l ts targets.once))
               (λ qs. (
                 (λ c. Keeps-from (λ (ps : List Step). IsContinuable q.expr (word_of ps)) more gains.goers.0 gains.goers.2 qs c),
                 (λ g. Keeps-to (λ (ps : List Step). IsContinuable q.expr (word_of ps)) more gains.goers.0 gains.goers.2 qs g.0 g.1),

@@ -11,14 +11,14 @@ use Rattle.sg_base.specs.Label.{Word}
 use Rattle.sg_base.specs.Path.{word_of}
 use Rattle.sg_base.specs.Scope.{is_scope}
 use Rattle.sg_base.proofs.Finite.{single, Contains-head, map-Contains, Contains-map, Distinct-map, each_from}
-use Rattle.sg_expr.specs.declared.expr.Expr.{Expr}
+use Rattle.sg_expr.specs.Tree.{ExprOf}
 use Rattle.sg_expr.specs.Word.{In, IsContinuable}
 use Rattle.sg_query.specs.declared.found.Found.{Found}
 use Rattle.sg_query.specs.State.{Item, next, whole}
 use Rattle.sg_query.specs.Steps.{is_fresh}
 use Rattle.sg_query.proofs.Paths.{word_of-append, end_of-append}
 use Rattle.sg_engine.specs.declared.found_at.FoundAt.{FoundAt}
-use Rattle.sg_engine.specs.Nodes.{NodeOf as Node}
+use Rattle.sg_engine.specs.Nodes.{NodeOf as Node, RestOf, InRest}
 use Rattle.sg_engine.specs.declared.work.Work.{Work}
 use Rattle.sg_engine.specs.declared.work.Work.TheVariants.{Next, Whole}
 use Rattle.sg_engine.specs.Front.{Front, path_of, IsOffered, step_to}
@@ -116,8 +116,8 @@ pub item_same : (ps qs : List (List Step)) (w : Work) → place_of w < length ps
 item_same ps qs (Next k l) h = ap (λ (p : List Step). next p l) (path_at-left ps qs k h)
 item_same ps qs (Whole k) h = ap (λ (p : List Step). whole p) (path_at-left ps qs k h)
 
-module _ {D : Type 0} (e : Expr) (start : Scope) (nodes : List Node) (left : List Work) (found : List (FoundAt D)) (explored going : ℕ) (tree : IsTreeOn e start nodes left found explored going)
-    (parent : ℕ) (at : parent < length nodes) (over : Node) (over_is : over ≡ slice_index_or nodes parent over) (l : ℕ) (to : Scope) (rest : Expr) (after : (w : Word) → (In rest w) ↔ (In over.rest (l ∷ w)))
+module _ {D : Type 0} (e : ExprOf) (start : Scope) (nodes : List Node) (left : List Work) (found : List (FoundAt D)) (explored going : ℕ) (tree : IsTreeOn e start nodes left found explored going)
+    (parent : ℕ) (at : parent < length nodes) (over : Node) (over_is : over ≡ slice_index_or nodes parent over) (l : ℕ) (to : Scope) (rest : RestOf) (after : (w : Word) → (InRest rest w) ↔ (InRest over.rest (l ∷ w)))
     (ws : List Work) (once : IsDistinct ws) (seventeen : length ws ≤ 17) (offers : (x : Work) → (Contains ws x) ↔ (IsWorkOf rest (length nodes) x)) where
   abbrev pub node : Node
   node = record { parent = parent; step = step_to l to; rest = rest }
@@ -143,7 +143,7 @@ module _ {D : Type 0} (e : Expr) (start : Scope) (nodes : List Node) (left : Lis
   new_at : path_at paths' (length nodes) ≡ path
   new_at = ap (λ (t : List (List Step)). path_at t (length nodes)) paths_are ∙ (ap (λ (k : ℕ). path_at (paths_of nodes ++ path ∷ []) k) (sym size) ∙ path_at-end (paths_of nodes) path)
 
-  pub rest_is : (w : Word) → (In rest w) ↔ (In e (word_of path ++ w))
+  pub rest_is : (w : Word) → (InRest rest w) ↔ (In e (word_of path ++ w))
   rest_is w =
       let same : word_of (path_at (paths_of nodes) parent) ++ (l ∷ w) ≡ word_of path ++ w =
       sym (ap (λ (t : Word). t ++ w) (word_of-append (path_at (paths_of nodes) parent) (step_to l to ∷ [])) ∙ append_assoc (word_of (path_at (paths_of nodes) parent)) (l ∷ []) w) in
@@ -229,13 +229,13 @@ module _ {D : Type 0} (e : Expr) (start : Scope) (nodes : List Node) (left : Lis
   news_to (next ps m) c o =
       let same : ps ≡ path = single path ps c in
       let here : In e ((word_of path ++ m ∷ []) ++ o.0) = subst (λ (p : List Step). In e ((word_of p ++ m ∷ []) ++ o.0)) same o.1 in
-      let inside : In rest (m ∷ o.0) = (rest_is (m ∷ o.0)).1 (subst (In e) (append_assoc (word_of path) (m ∷ []) o.0) here) in
+      let inside : InRest rest (m ∷ o.0) = (rest_is (m ∷ o.0)).1 (subst (In e) (append_assoc (word_of path) (m ∷ []) o.0) here) in
       subst (λ (x : Item). Contains news x) (item_next (length nodes) m refl ∙ ap (λ (p : List Step). next p m) (sym same))
       (map-Contains (item_of paths') ws (Next (length nodes) m) ((offers (Next (length nodes) m)).1 (refl, (o.0, inside))))
   news_to (whole ps) c o =
       let same : ps ≡ path = single path ps c in
       let here : In e (word_of path) = subst (λ (p : List Step). In e (word_of p)) same o in
-      let inside : In rest [] = (rest_is []).1 (subst (In e) (sym (append-nil (word_of path))) here) in
+      let inside : InRest rest [] = (rest_is []).1 (subst (In e) (sym (append-nil (word_of path))) here) in
       subst (λ (x : Item). Contains news x) (item_whole (length nodes) refl ∙ ap (λ (p : List Step). whole p) (sym same))
       (map-Contains (item_of paths') ws (Whole (length nodes)) ((offers (Whole (length nodes))).1 (refl, inside)))
 
@@ -256,10 +256,10 @@ module _ {D : Type 0} (e : Expr) (start : Scope) (nodes : List Node) (left : Lis
         explored = refl;
       }
 
-  pub gains_going : (v : Word) → v ≢ [] → In rest v → Gains e (front_on start nodes left found explored going) (front_on start (nodes ++ node ∷ []) (left ++ ws) found explored (going + 1)) (path ∷ [])
+  pub gains_going : (v : Word) → v ≢ [] → InRest rest v → Gains e (front_on start nodes left found explored going) (front_on start (nodes ++ node ∷ []) (left ++ ws) found explored (going + 1)) (path ∷ [])
   gains_going v n i = gains_with (going + 1) (path ∷ []) refl (inl ((v, n, (rest_is v).0 i), ([], refl, refl)))
 
-  pub gains_ending : ((v : Word) → v ≢ [] → In rest v → ⊥) → Gains e (front_on start nodes left found explored going) (front_on start (nodes ++ node ∷ []) (left ++ ws) found explored going) (path ∷ [])
+  pub gains_ending : ((v : Word) → v ≢ [] → InRest rest v → ⊥) → Gains e (front_on start nodes left found explored going) (front_on start (nodes ++ node ∷ []) (left ++ ws) found explored going) (path ∷ [])
   gains_ending none = gains_with going [] (omega arith) (inr ((λ c. none c.0 c.1 ((rest_is c.0).1 c.2)), refl))
 
 -- ---- the same for the lists of what is left
@@ -270,8 +270,8 @@ queue_on from queue queue' ws fits more = (
   (let size : length queue' ≡ length queue + length ws = ap (λ (t : List Work). length t) more ∙ length-append queue ws in omega (arith, size, fits)),
 )
 
-module _ {D : Type 0} (e : Expr) (start : Scope) (nodes : List Node) (blocked queue : List Work) (from : ℕ) (found : List (FoundAt D)) (explored going : ℕ) (tree : IsTreeOn e start nodes (blocked ++ drop from queue) found explored going × (from ≤ length queue))
-    (parent : ℕ) (at : parent < length nodes) (over : Node) (over_is : over ≡ slice_index_or nodes parent over) (l : ℕ) (to : Scope) (rest : Expr) (after : (w : Word) → (In rest w) ↔ (In over.rest (l ∷ w)))
+module _ {D : Type 0} (e : ExprOf) (start : Scope) (nodes : List Node) (blocked queue : List Work) (from : ℕ) (found : List (FoundAt D)) (explored going : ℕ) (tree : IsTreeOn e start nodes (blocked ++ drop from queue) found explored going × (from ≤ length queue))
+    (parent : ℕ) (at : parent < length nodes) (over : Node) (over_is : over ≡ slice_index_or nodes parent over) (l : ℕ) (to : Scope) (rest : RestOf) (after : (w : Word) → (InRest rest w) ↔ (InRest over.rest (l ∷ w)))
     (place : ℕ) (place_is : place ≡ length nodes) (queue' : List Work) (offers : (ws : List Work) × (queue' ≡ queue ++ ws) × IsDistinct ws × (length ws ≤ 17) × ((x : Work) → (Contains ws x) ↔ (IsWorkOf rest place x))) where
   abbrev pub entry : Node
   entry = record { parent = parent; step = step_to l to; rest = rest }
@@ -293,7 +293,7 @@ module _ {D : Type 0} (e : Expr) (start : Scope) (nodes : List Node) (blocked qu
   Pushes going' =
       (IsTreeOn e start (nodes ++ entry ∷ []) (blocked ++ drop from queue') found explored going' × (from ≤ length queue')) × Gains e (front_on start nodes (blocked ++ drop from queue) found explored going) (front_on start (nodes ++ entry ∷ []) (blocked ++ drop from queue') found explored going') ((path_at (paths_of nodes) parent ++ step_to l to ∷ []) ∷ [])
 
-  pub pushed_going : (v : Word) × (v ≢ []) × In rest v → Pushes (going + 1)
+  pub pushed_going : (v : Word) × (v ≢ []) × InRest rest v → Pushes (going + 1)
   pushed_going k =
       let p = subst (Pushed (going + 1)) left_is (
         tree_grows e start nodes (blocked ++ drop from queue) found explored going (tree.0) parent at over over_is l to rest after offers.0 offers.2 offers.3 here (going + 1) (omega (arith, (tree.0).few)),
@@ -301,7 +301,7 @@ module _ {D : Type 0} (e : Expr) (start : Scope) (nodes : List Node) (blocked qu
       ) in
       ((p.0, queue_is.1), p.1)
 
-  pub pushed_ending : ((v : Word) × (v ≢ []) × In rest v → ⊥) → Pushes going
+  pub pushed_ending : ((v : Word) × (v ≢ []) × InRest rest v → ⊥) → Pushes going
   pushed_ending n =
       let p = subst (Pushed going) left_is (
         tree_grows e start nodes (blocked ++ drop from queue) found explored going (tree.0) parent at over over_is l to rest after offers.0 offers.2 offers.3 here going (omega (arith, (tree.0).few)),
@@ -327,7 +327,7 @@ filter-out {X} f (y ∷ xs) x h =
       | inr e ↦ rw e (filter-out f xs x h)
     ]
 
-module _ {D : Type 0} (e : Expr) (f g : Front D) (start : Scope) (ps : List Step) (l : ℕ) (row : List Scope) (k : ℕ) (t : Scope) (in_row : k < length row) (is : t ≡ slice_index_or row k t) where
+module _ {D : Type 0} (e : ExprOf) (f g : Front D) (start : Scope) (ps : List Step) (l : ℕ) (row : List Scope) (k : ℕ) (t : Scope) (in_row : k < length row) (is : t ≡ slice_index_or row k t) where
   longer_row : take (k + 1) row ≡ take k row ++ t ∷ []
   longer_row = take_more row k t in_row ∙ ap (λ (x : Scope). take k row ++ x ∷ []) (sym is)
 
@@ -350,7 +350,7 @@ module _ {D : Type 0} (e : Expr) (f g : Front D) (start : Scope) (ps : List Step
       subst (Gains e f g) (sym paths) a
 
 -- a node that was there keeps its path
-pub place_kept : {D : Type 0} (e : Expr) (f g : Front D) (more : List (List Step)) (nodes nodes' : List Node) (k : ℕ) → f.paths ≡ paths_of nodes → g.paths ≡ paths_of nodes' → Gains e f g more → k < length nodes → (k < length nodes') × (path_at (paths_of nodes') k ≡ path_at (paths_of nodes) k)
+pub place_kept : {D : Type 0} (e : ExprOf) (f g : Front D) (more : List (List Step)) (nodes nodes' : List Node) (k : ℕ) → f.paths ≡ paths_of nodes → g.paths ≡ paths_of nodes' → Gains e f g more → k < length nodes → (k < length nodes') × (path_at (paths_of nodes') k ≡ path_at (paths_of nodes) k)
 place_kept e f g more nodes nodes' k a b gains h =
     let same : paths_of nodes' ≡ paths_of nodes ++ more = sym b ∙ (gains.paths ∙ ap (λ (t : List (List Step)). t ++ more) a) in
     let size : length (paths_of nodes') ≡ length (paths_of nodes) + length more = ap (λ (t : List (List Step)). length t) same ∙ length-append (paths_of nodes) more in
@@ -360,3 +360,22 @@ pub any_default : {X : Type 0} (xs : List X) (k : ℕ) (d e : X) → k < length 
 any_default [] k d e l = absurd (omega arith)
 any_default (x ∷ xs) zero d e l = refl
 any_default (x ∷ xs) (suc k) d e l = any_default xs k d e (omega arith)
+
+-- ---- targets in two lists
+
+filter-append : {X : Type 0} (f : X → Bool) (xs ys : List X) → filter f (xs ++ ys) ≡ filter f xs ++ filter f ys
+filter-append f [] ys = refl
+filter-append {X} f (x ∷ xs) ys =
+    elim (cases_Bool (f x)) [
+      | inl e ↦ rw e (ap (λ (t : List X). x ∷ t) (filter-append f xs ys))
+      | inr e ↦ rw e (filter-append f xs ys)
+    ]
+
+pub into_append : (start : Scope) (ps : List Step) (l : ℕ) (ts us : List Scope) → into_targets start ps l (ts ++ us) ≡ into_targets start ps l ts ++ into_targets start ps l us
+into_append start ps l ts us =
+    ap (λ (rs : List Scope). map (λ (t : Scope). ps ++ step_to l t ∷ []) rs) (filter-append (is_fresh start ps) ts us)
+    ∙ map-append (λ (t : Scope). ps ++ step_to l t ∷ []) (filter (is_fresh start ps) ts) (filter (is_fresh start ps) us)
+
+pub gains_two : {D : Type 0} (e : ExprOf) (f g h : Front D) (start start' : Scope) (ps ps' : List Step) (l : ℕ) (ts us : List Scope) → start' ≡ start → ps' ≡ ps → Gains e f g (into_targets start ps l ts) → Gains e g h (into_targets start' ps' l us) → Gains e f h (into_targets start ps l (ts ++ us))
+gains_two e f g h start start' ps ps' l ts us s p a b =
+    subst (Gains e f h) (sym (into_append start ps l ts us)) (gains_both e f g h (into_targets start ps l ts) (into_targets start ps l us) a (rw (s, p) at b))

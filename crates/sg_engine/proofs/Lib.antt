@@ -6,9 +6,9 @@ pub mod Ending
 pub mod Exploring
 pub mod Growing
 pub mod Keeping
+pub mod Keying
 pub mod Listing
 pub mod Looking
-pub mod Moving
 pub mod Needing
 pub mod Offering
 pub mod Passing

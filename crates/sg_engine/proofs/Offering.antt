@@ -6,13 +6,12 @@ use Rattle.std.proofs.lemmas.List.Elements.{Contains-append_left, Contains-appen
 use Rattle.sg_base.specs.Label.{Word, Has}
 use Rattle.sg_base.specs.List.{IsDistinct}
 use Rattle.sg_base.proofs.Finite.{single, map-Contains, Contains-map, Distinct-map, Distinct-push}
-use Rattle.sg_expr.specs.declared.expr.Expr.{Expr}
-use Rattle.sg_expr.specs.Word.{In}
 use Rattle.sg_query.specs.Walk.{labels_below}
 use Rattle.sg_query.proofs.Extending.{labels_to, labels_distinct}
 use Rattle.sg_engine.specs.declared.work.Work.{Work}
 use Rattle.sg_engine.specs.declared.work.Work.TheVariants.{Next, Whole}
 use Rattle.sg_engine.specs.Growth.{Keeps}
+use Rattle.sg_engine.specs.Nodes.{RestOf, InRest}
 use Rattle.sg_engine.specs.Tree.{IsWorkOf}
 use Rattle.sg_engine.proofs.Keeping.{Keeps-from, Keeps-to, Keeps-distinct, Keeps-push_in, Keeps-push_out, Keeps-length}
 
@@ -61,7 +60,7 @@ abbrev pub OfferedAll : ℕ → ℕ → List Work → List Work → Type 0
 OfferedAll heads place old now = OfferedTo heads place 16 old now × ((l : ℕ) → Has heads l → l < 16)
 
 -- words that do not go on begin with no label
-pub headless : (heads : ℕ) (rest : Expr) → ((l : ℕ) → (Has heads l) ↔ ((w : Word) × In rest (l ∷ w))) → ((w : Word) × (w ≢ []) × In rest w → ⊥) → (l : ℕ) → Has heads l → ⊥
+pub headless : (heads : ℕ) (rest : RestOf) → ((l : ℕ) → (Has heads l) ↔ ((w : Word) × InRest rest (l ∷ w))) → ((w : Word) × (w ≢ []) × InRest rest w → ⊥) → (l : ℕ) → Has heads l → ⊥
 headless heads rest means none l h = let k = (means l).0 h in none (l ∷ k.0, (λ e. cc e), k.1)
 
 pub offered_now : (heads place : ℕ) (old now same : List Work) → now ≡ same → OfferedAll heads place old same → OfferedAll heads place old now
@@ -70,7 +69,7 @@ offered_now heads place old now same e o = subst (OfferedAll heads place old) (s
 pub offered_headless : (heads place : ℕ) (old : List Work) → ((l : ℕ) → Has heads l → ⊥) → OfferedAll heads place old old
 offered_headless heads place old h = (offered_nowhere heads place 16 old h, λ l k. absurd (h l k))
 
-module _ (heads place : ℕ) (rest : Expr) (small : (l : ℕ) → Has heads l → l < 16) (means : (l : ℕ) → (Has heads l) ↔ ((w : Word) × In rest (l ∷ w))) (old now : List Work) (o : OfferedTo heads place 16 old now) where
+module _ (heads place : ℕ) (rest : RestOf) (small : (l : ℕ) → Has heads l → l < 16) (means : (l : ℕ) → (Has heads l) ↔ ((w : Word) × InRest rest (l ∷ w))) (old now : List Work) (o : OfferedTo heads place 16 old now) where
   abbrev pub nexts : List Work
   nexts = map (λ l. Next place l) o.0
 
@@ -86,17 +85,17 @@ module _ (heads place : ℕ) (rest : Expr) (small : (l : ℕ) → Has heads l �
   work_next : (x : Work) → Contains nexts x → IsWorkOf rest place x
   work_next x c = let k = nexts_from x c in subst (IsWorkOf rest place) (sym k.2) (refl, (means k.0).0 k.1)
 
-  work_to : (x : Work) → IsWorkOf rest place x → Contains nexts x ⊎ ((x ≡ Whole place) × In rest [])
+  work_to : (x : Work) → IsWorkOf rest place x → Contains nexts x ⊎ ((x ≡ Whole place) × InRest rest [])
   work_to (Next k l) w = inl (subst (λ (t : ℕ). Contains nexts (Next t l)) (sym w.0) (nexts_to l ((means l).1 w.1)))
   work_to (Whole k) w = inr (ap (λ (t : ℕ). Whole t) w.0, w.1)
 
   sixteen : length nexts ≤ 16
   sixteen = omega (arith, Keeps-length (Has heads) (labels_below 16) o.0 o.1, labels_many 16, length-map (λ (l : ℕ). Next place l) o.0)
 
-  pub offers_next : (In rest [] → ⊥) → (ws : List Work) × (now ≡ old ++ ws) × IsDistinct ws × (length ws ≤ 17) × ((x : Work) → (Contains ws x) ↔ (IsWorkOf rest place x))
+  pub offers_next : (InRest rest [] → ⊥) → (ws : List Work) × (now ≡ old ++ ws) × IsDistinct ws × (length ws ≤ 17) × ((x : Work) → (Contains ws x) ↔ (IsWorkOf rest place x))
   offers_next n = (nexts, o.2, nexts_distinct, omega (arith, sixteen), λ x. (work_next x, λ w. elim (work_to x w) [ inl c ↦ c | inr k ↦ absurd (n k.1) ]))
 
-  pub offers_whole : In rest [] → (ws : List Work) × (now ++ Whole place ∷ [] ≡ old ++ ws) × IsDistinct ws × (length ws ≤ 17) × ((x : Work) → (Contains ws x) ↔ (IsWorkOf rest place x))
+  pub offers_whole : InRest rest [] → (ws : List Work) × (now ++ Whole place ∷ [] ≡ old ++ ws) × IsDistinct ws × (length ws ≤ 17) × ((x : Work) → (Contains ws x) ↔ (IsWorkOf rest place x))
   offers_whole i = (
     nexts ++ Whole place ∷ [],
     ap (λ (t : List Work). t ++ Whole place ∷ []) o.2 ∙ append_assoc old nexts (Whole place ∷ []),

@@ -6,7 +6,7 @@ use Rattle.std.proofs.Math.Seq.{get_or-append_seam}
 use Rattle.std.specs.Prelude.{IsTrue}
 use Rattle.sg_base.specs.declared.scope.Scope.{Scope}
 use Rattle.sg_base.specs.Scope.{is_scope}
-use Rattle.sg_expr.specs.declared.expr.Expr.{Expr}
+use Rattle.sg_expr.specs.Tree.{ExprOf}
 use Rattle.sg_query.specs.Steps.{is_fresh}
 use Rattle.sg_engine.specs.declared.found_at.FoundAt.{FoundAt}
 use Rattle.sg_engine.specs.declared.work.Work.{Work}
@@ -55,7 +55,7 @@ passed_take passed items k all i n z h e =
 
 -- ---- paths that pass by a scope nowhere
 
-module _ {D : Type 0} (e : Expr) (start : Scope) (nodes : List NodeOf) (left : List Work) (found : List (FoundAt D)) (explored going : ℕ) (tree : IsTreeOn e start nodes left found explored going) (t : Scope) where
+module _ {D : Type 0} (e : ExprOf) (start : Scope) (nodes : List NodeOf) (left : List Work) (found : List (FoundAt D)) (explored going : ℕ) (tree : IsTreeOn e start nodes left found explored going) (t : Scope) where
   fresh_above : (place : ℕ) → EndElsewhere nodes place t → (many k : ℕ) (n : NodeOf) → k ≤ many → k < length nodes → n ≡ slice_index_or nodes k n → is_scope n.step.to t ≡ false → is_fresh start (path_at (paths_of nodes) k) t ≡ not (is_scope t start)
   fresh_above place none many zero n few h at here = fresh_root start (path_at (paths_of nodes) 0) t tree.first
   fresh_above place none zero (suc k) n few h at here = absurd (omega (arith, few))

@@ -7,11 +7,11 @@ use Rattle.sg_base.specs.Label.{Word}
 use Rattle.sg_base.specs.List.{IsDistinct}
 use Rattle.sg_base.specs.Path.{word_of}
 use Rattle.sg_base.proofs.Finite.{single, Contains-head, map-Contains, Contains-map, Distinct-map, each_from}
-use Rattle.sg_expr.specs.declared.expr.Expr.{Expr}
+use Rattle.sg_expr.specs.Tree.{ExprOf}
 use Rattle.sg_expr.specs.Word.{In, IsContinuable}
 use Rattle.sg_query.specs.State.{Item, next, whole}
 use Rattle.sg_engine.specs.declared.found_at.FoundAt.{FoundAt}
-use Rattle.sg_engine.specs.Nodes.{NodeOf as Node}
+use Rattle.sg_engine.specs.Nodes.{NodeOf as Node, RestOf, InRest}
 use Rattle.sg_engine.specs.declared.work.Work.{Work}
 use Rattle.sg_engine.specs.declared.work.Work.TheVariants.{Next, Whole}
 use Rattle.sg_engine.specs.Front.{path_of, IsOffered}
@@ -27,11 +27,11 @@ same_root (Next j m) (Whole k) h g s = cc s
 same_root (Whole j) (Next k n) h g s = cc s
 same_root (Whole j) (Whole k) h g s = cc (h, g)
 
-place_zero : (e : Expr) (w : Work) → IsWorkOf e 0 w → place_of w ≡ 0
+place_zero : (e : RestOf) (w : Work) → IsWorkOf e 0 w → place_of w ≡ 0
 place_zero e (Next k l) i = i.0
 place_zero e (Whole k) i = i.0
 
-module _ (e rest : Expr) (same : (w : Word) → (In rest w) ↔ (In e w)) (start : Scope) (node : Node) (to : node.step.to ≡ start) (is : node.rest ≡ rest)
+module _ (e : ExprOf) (rest : RestOf) (same : (w : Word) → (InRest rest w) ↔ (In e w)) (start : Scope) (node : Node) (to : node.step.to ≡ start) (is : node.rest ≡ rest)
     (ws : List Work) (once : IsDistinct ws) (seventeen : length ws ≤ 17) (offers : (x : Work) → (Contains ws x) ↔ (IsWorkOf rest 0 x)) where
   abbrev nodes : List Node
   nodes = node ∷ []
@@ -47,7 +47,7 @@ module _ (e rest : Expr) (same : (w : Word) → (In rest w) ↔ (In e w)) (start
         let here : n ≡ node = k ∙ ap (λ (j : ℕ). slice_index_or nodes j n) (sym z) in
         subst (λ (j : ℕ). IsNodeOf start e n (path_at no_steps j)) z (subst (λ (m : Node). IsNodeOf start e m []) (sym here) (record {
           ends = sym to;
-          rest = λ w. ((λ k. (same w).0 (subst (λ (x : Expr). In x w) is k)), (λ k. subst (λ (x : Expr). In x w) (sym is) ((same w).1 k)));
+          rest = λ w. ((λ k. (same w).0 (subst (λ (x : RestOf). InRest x w) is k)), (λ k. subst (λ (x : RestOf). InRest x w) (sym is) ((same w).1 k)));
         }));
     first = refl;
     grown = λ i n z h k. absurd (omega (arith, z, h));
@@ -88,20 +88,20 @@ module _ (e rest : Expr) (same : (w : Word) → (In rest w) ↔ (In e w)) (start
     explored = refl;
   }
 
-  pub root_goes : {D : Type 0} → (v : Word) × (v ≢ []) × In rest v → IsTreeOn {D = D} e start nodes ws [] 0 1 × Gains {D = D} e no_front (front_on start nodes ws [] 0 1) no_steps
+  pub root_goes : {D : Type 0} → (v : Word) × (v ≢ []) × InRest rest v → IsTreeOn {D = D} e start nodes ws [] 0 1 × Gains {D = D} e no_front (front_on start nodes ws [] 0 1) no_steps
   root_goes {D} k = (root_tree 1 (omega arith), gains_root 1 no_steps refl (inl ((k.0, k.1, (same k.0).0 k.2), ([], refl, refl))))
 
-  pub root_ends : {D : Type 0} → ((v : Word) × (v ≢ []) × In rest v → ⊥) → IsTreeOn {D = D} e start nodes ws [] 0 0 × Gains {D = D} e no_front (front_on start nodes ws [] 0 0) no_steps
+  pub root_ends : {D : Type 0} → ((v : Word) × (v ≢ []) × InRest rest v → ⊥) → IsTreeOn {D = D} e start nodes ws [] 0 0 × Gains {D = D} e no_front (front_on start nodes ws [] 0 0) no_steps
   root_ends {D} n = (root_tree 0 (omega arith), gains_root 0 [] refl (inr ((λ c. n (c.0, c.1, (same c.0).1 c.2)), refl)))
 
 -- the words go on, or they do not
-abbrev pub Counts : Expr → ℕ → Type 0
-Counts rest going = ((going ≡ 1) × ((v : Word) × (v ≢ []) × In rest v)) ⊎ ((going ≡ 0) × ((v : Word) × (v ≢ []) × In rest v → ⊥))
+abbrev pub Counts : RestOf → ℕ → Type 0
+Counts rest going = ((going ≡ 1) × ((v : Word) × (v ≢ []) × InRest rest v)) ⊎ ((going ≡ 0) × ((v : Word) × (v ≢ []) × InRest rest v → ⊥))
 
-abbrev Made : {D : Type 0} → Expr → Scope → List Node → List Work → List (FoundAt D) → ℕ → Type 0
+abbrev Made : {D : Type 0} → ExprOf → Scope → List Node → List Work → List (FoundAt D) → ℕ → Type 0
 Made e start nodes left found going = IsTreeOn e start nodes left found 0 going × Gains e no_front (front_on start nodes left found 0 going) no_steps
 
-pub root_made : {D : Type 0} (e rest : Expr) (start : Scope) (before nodes : List Node) (node : Node) (blocked old queue : List Work) (found : List (FoundAt D)) (going : ℕ) → ((w : Word) → (In rest w) ↔ (In e w)) → before ≡ [] → nodes ≡ before ++ node ∷ [] → node.step.to ≡ start → node.rest ≡ rest → blocked ≡ [] → old ≡ [] → (ws : List Work) × (queue ≡ old ++ ws) × IsDistinct ws × (length ws ≤ 17) × ((x : Work) → (Contains ws x) ↔ (IsWorkOf rest 0 x)) → found ≡ [] → Counts rest going → (IsTreeOn e start nodes (blocked ++ drop 0 queue) found 0 going × (0 ≤ length queue)) × Gains e no_front (front_on start nodes (blocked ++ drop 0 queue) found 0 going) no_steps
+pub root_made : {D : Type 0} (e : ExprOf) (rest : RestOf) (start : Scope) (before nodes : List Node) (node : Node) (blocked old queue : List Work) (found : List (FoundAt D)) (going : ℕ) → ((w : Word) → (InRest rest w) ↔ (In e w)) → before ≡ [] → nodes ≡ before ++ node ∷ [] → node.step.to ≡ start → node.rest ≡ rest → blocked ≡ [] → old ≡ [] → (ws : List Work) × (queue ≡ old ++ ws) × IsDistinct ws × (length ws ≤ 17) × ((x : Work) → (Contains ws x) ↔ (IsWorkOf rest 0 x)) → found ≡ [] → Counts rest going → (IsTreeOn e start nodes (blocked ++ drop 0 queue) found 0 going × (0 ≤ length queue)) × Gains e no_front (front_on start nodes (blocked ++ drop 0 queue) found 0 going) no_steps
 root_made {D} e rest start before nodes node blocked old queue found going same a b to is f g o none counts =
     let one : nodes ≡ node ∷ [] = b ∙ ap (λ (r : List Node). r ++ node ∷ []) a in
     let left : blocked ++ drop 0 queue ≡ o.0 = ap (λ (r : List Work). r ++ queue) f ∙ (o.1 ∙ ap (λ (r : List Work). r ++ o.0) g) in

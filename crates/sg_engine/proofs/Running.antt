@@ -17,7 +17,9 @@ use Rattle.sg_engine.specs.Nodes.{NodeOf as Node}
 use Rattle.sg_engine.specs.declared.tree.Tree.{Tree}
 use Rattle.sg_engine.specs.declared.work.Work.{Work}
 use Rattle.sg_engine.specs.declared.work.Work.TheVariants.{Next, Whole}
+use Rattle.sg_state.specs.Held.{HeldOf, state_of}
 use Rattle.sg_engine.specs.Front.{IsBlocked, AllBlocked}
+use Rattle.sg_engine.specs.Keyed.{Wanting}
 use Rattle.sg_engine.specs.Run.{HasLooked, IsSearchOn, IsSearchIn}
 use Rattle.sg_engine.specs.Tree.{path_at, paths_of, item_of, place_of, left_of, front_of, BlocksWork, AllBlock}
 use Rattle.sg_engine.proofs.Exploring.{cut_has}
@@ -50,23 +52,6 @@ module _ {D : Type 0} (h : State D) where
   looked_next t u Over same fits l = subst (λ v. u.next ≤ length v.items) (sym same) (let e : u.next ≡ length t.queue.items = l.2 in omega (arith, e))
   looked_next t u (Free w) same fits l = subst (λ v. u.next ≤ length v.items) (sym same) (let e : u.next < length t.queue.items = l.3 in omega (arith, e))
 
-  module _ (wants : D → Bool) (q : Asked D) where
-    search_same : (start start' : Scope) (nodes nodes' : List Node) (left left' : List Work) (found found' : List (FoundAt D)) (explored explored' going going' : ℕ) → start' ≡ start → nodes' ≡ nodes → left' ≡ left → found' ≡ found → explored' ≡ explored → going' ≡ going → IsSearchOn h wants q start nodes left found explored going → IsSearchOn h wants q start' nodes' left' found' explored' going'
-    search_same start start' nodes nodes' left left' found found' explored explored' going going' a b c d e f s = rw (a, b, c, d, e, f) s
-
-    pub looked_search : (t u : Tree D) (o : Look) → u.start ≡ t.start → u.nodes ≡ t.nodes → u.queue ≡ t.queue → u.found ≡ t.found → u.explored ≡ t.explored → u.going ≡ t.going → HasLooked h t u o → IsSearchIn h wants q t → IsSearchIn h wants q u
-    looked_search t u o a b c d e f l s = (
-      search_same t.start u.start t.nodes.items u.nodes.items (left_of t) (left_of u) t.found.items u.found.items t.explored u.explored t.going u.going a (ap (λ v. v.items) b) (looked_left t u o l) (ap (λ v. v.items) d) e f s.0,
-      looked_next t u o c s.1 l,
-    )
-
-    -- the first of the queue is taken
-    pub taken : (u : Tree D) (w : Work) → drop u.next u.queue.items ≡ w ∷ drop (u.next + 1) u.queue.items → u.next < length u.queue.items → IsSearchIn h wants q u → IsSearchOn h wants q u.start u.nodes.items (u.blocked.items ++ w ∷ drop (u.next + 1) u.queue.items) u.found.items u.explored u.going × (u.next + 1 ≤ length u.queue.items)
-    taken u w head fits s = (
-      subst (λ (r : List Work). IsSearchOn h wants q u.start u.nodes.items (u.blocked.items ++ r) u.found.items u.explored u.going) head s.0,
-      omega (arith, fits),
-    )
-
   module _ (t u : Tree D) (w : Work) (a : u.start ≡ t.start) (b : u.nodes ≡ t.nodes) (c : u.queue ≡ t.queue) (l : HasLooked h t u (Free w)) where
     pub free_head : drop u.next u.queue.items ≡ w ∷ drop (u.next + 1) u.queue.items
     free_head = subst (λ v. drop u.next v.items ≡ w ∷ drop (u.next + 1) v.items) (sym c) l.2
@@ -87,6 +72,25 @@ module _ {D : Type 0} (h : State D) where
     pub over_block : AllBlock h t.start t.nodes.items t.blocked.items → AllBlock h u.start u.nodes.items u.blocked.items
     over_block all = subst (λ (s : Scope). AllBlock h s u.nodes.items u.blocked.items) (sym a) (subst (λ v. AllBlock h t.start v.items u.blocked.items) (sym b) (l.3 all))
 
+-- ---- a search that looked on
+
+module _ {D : Type 0} (h : HeldOf D) (k : Wanting D) (ps : List (List Step)) (q : Asked D) where
+  search_same : (start start' : Scope) (nodes nodes' : List Node) (left left' : List Work) (found found' : List (FoundAt D)) (explored explored' going going' : ℕ) → start' ≡ start → nodes' ≡ nodes → left' ≡ left → found' ≡ found → explored' ≡ explored → going' ≡ going → IsSearchOn h k ps q start nodes left found explored going → IsSearchOn h k ps q start' nodes' left' found' explored' going'
+  search_same start start' nodes nodes' left left' found found' explored explored' going going' a b c d e f s = rw (a, b, c, d, e, f) s
+
+  pub looked_search : (t u : Tree D) (o : Look) → u.start ≡ t.start → u.nodes ≡ t.nodes → u.queue ≡ t.queue → u.found ≡ t.found → u.explored ≡ t.explored → u.going ≡ t.going → HasLooked (state_of h) t u o → IsSearchIn h k ps q t → IsSearchIn h k ps q u
+  looked_search t u o a b c d e f l s = (
+    search_same t.start u.start t.nodes.items u.nodes.items (left_of t) (left_of u) t.found.items u.found.items t.explored u.explored t.going u.going a (ap (λ v. v.items) b) (looked_left (state_of h) t u o l) (ap (λ v. v.items) d) e f s.0,
+    looked_next (state_of h) t u o c s.1 l,
+  )
+
+  -- the first of the queue is taken
+  pub taken : (u : Tree D) (w : Work) → drop u.next u.queue.items ≡ w ∷ drop (u.next + 1) u.queue.items → u.next < length u.queue.items → IsSearchIn h k ps q u → IsSearchOn h k ps q u.start u.nodes.items (u.blocked.items ++ w ∷ drop (u.next + 1) u.queue.items) u.found.items u.explored u.going × (u.next + 1 ≤ length u.queue.items)
+  taken u w head fits s = (
+    subst (λ (r : List Work). IsSearchOn h k ps q u.start u.nodes.items (u.blocked.items ++ r) u.found.items u.explored u.going) head s.0,
+    omega (arith, fits),
+  )
+
 -- ---- what was put aside in the place of a queue that is over
 
 drop_end : {X : Type 0} (xs : List X) → drop (length xs) xs ≡ []
@@ -96,12 +100,12 @@ drop_end (x ∷ xs) = drop_end xs
 pub over_left : {X : Type 0} (blocked queue : List X) (at : ℕ) → at ≡ length queue → blocked ++ drop at queue ≡ blocked
 over_left {X} blocked queue at e = ap (λ (k : ℕ). blocked ++ drop k queue) e ∙ (ap (λ (r : List X). blocked ++ r) (drop_end queue) ∙ append-nil blocked)
 
-module _ {D : Type 0} (h : State D) (wants : D → Bool) (q : Asked D) where
-  pub again_search : (t : Tree D) (blocked queue : List Work) → blocked ≡ [] → queue ≡ t.blocked.items → t.next ≡ length t.queue.items → IsSearchIn h wants q t → IsSearchOn h wants q t.start t.nodes.items (blocked ++ drop 0 queue) t.found.items t.explored t.going × (0 ≤ length queue)
+module _ {D : Type 0} (h : HeldOf D) (k : Wanting D) (ps : List (List Step)) (q : Asked D) where
+  pub again_search : (t : Tree D) (blocked queue : List Work) → blocked ≡ [] → queue ≡ t.blocked.items → t.next ≡ length t.queue.items → IsSearchIn h k ps q t → IsSearchOn h k ps q t.start t.nodes.items (blocked ++ drop 0 queue) t.found.items t.explored t.going × (0 ≤ length queue)
   again_search t blocked queue a b over s =
       let same : left_of t ≡ t.blocked.items = over_left t.blocked.items t.queue.items t.next over in
       let left : blocked ++ drop 0 queue ≡ left_of t = ap (λ (r : List Work). r ++ queue) a ∙ (b ∙ sym same) in
-      (subst (λ (r : List Work). IsSearchOn h wants q t.start t.nodes.items r t.found.items t.explored t.going) (sym left) s.0, omega arith)
+      (subst (λ (r : List Work). IsSearchOn h k ps q t.start t.nodes.items r t.found.items t.explored t.going) (sym left) s.0, omega arith)
 
 -- ---- the end of a run
 

@@ -1,17 +1,17 @@
 -- A search stands in later states.
-use Rattle.std.proofs.Common.{ℕ, List, [], ◌∷◌, inl, inr}
+use Rattle.std.proofs.Common.{ℕ, List, [], ◌∷◌, ◌++◌, inl, inr, sym, subst}
 use Rattle.sg_base.specs.declared.scope.Scope.{Scope}
 use Rattle.sg_base.specs.declared.step.Step.{Step}
-use Rattle.sg_base.specs.Graph.{IsGraph, HasScope, IsWalk}
+use Rattle.sg_base.specs.Graph.{IsGraph, HasScope, HasEdge, IsWalk}
 use Rattle.sg_base.specs.Path.{end_of}
 use Rattle.sg_base.specs.State.{State, IsOpen, IsUnset, PassesClosed, IsClosedPath, Follows}
 use Rattle.sg_query.specs.declared.found.Found.{Found}
 use Rattle.sg_query.specs.Answer.{Reaches}
 use Rattle.sg_query.specs.Query.{Asked}
 use Rattle.sg_query.specs.State.{Item, next, whole}
-use Rattle.sg_query.proofs.Paths.{end_in}
+use Rattle.sg_query.proofs.Paths.{end_in, end_of-append}
 use Rattle.sg_engine.proofs.Closed.{Walk-grows}
-use Rattle.sg_engine.specs.Front.{Front, path_of, IsExplored, StandsAfter}
+use Rattle.sg_engine.specs.Front.{Front, path_of, step_to, IsMet, IsExplored, StandsAfter}
 use Rattle.sg_engine.specs.Law.{StandsLater}
 
 -- ---- later states
@@ -33,11 +33,19 @@ module _ {D : Type 0} (h h' : State D) (q : Asked D) (ok : IsGraph h.graph) (sta
   ends : (ps : List Step) → IsClosedPath h q.start ps → HasScope h.graph (end_of q.start ps)
   ends ps c = end_in h.graph ok q.start ps start_in (c.0).0
 
+  met_later : (paths : List (List Step)) (ps : List Step) (l : ℕ) (t : Scope) → HasEdge h.graph (end_of q.start ps) l t → IsMet h q paths (ps ++ step_to l t ∷ []) → IsMet h' q paths (ps ++ step_to l t ∷ [])
+  met_later paths ps l t edge m =
+      let there : HasScope h.graph (end_of q.start (ps ++ step_to l t ∷ [])) = subst (HasScope h.graph) (sym (end_of-append q.start ps (step_to l t ∷ []))) (ok.target (end_of q.start ps) l t edge) in
+      elim m [
+        | inl c ↦ inl c
+        | inr k ↦ inr (k.0, ((λ o. (k.1).0 (was_unset (end_of q.start (ps ++ step_to l t ∷ [])) there o)), ((k.1).1.0, later.extends.given (end_of q.start (ps ++ step_to l t ∷ [])) (k.1).1.0 (k.1).1.1, (k.1).1.2)))
+      ]
+
   pub explored_later : (paths : List (List Step)) (found : List (Found D)) (x : Item) → IsClosedPath h q.start (path_of x) → IsExplored h q paths found x → IsExplored h' q paths found x
   explored_later paths found (next ps l) c e = (
     (λ o. e.0 (was_open (end_of q.start ps) l (ends ps c) o)),
     (λ t k n. elim (later.extends.further_edges (end_of q.start ps) l t k) [
-      | inl old ↦ e.1 t old n
+      | inl old ↦ met_later paths ps l t old (e.1 t old n)
       | inr other ↦ elim other [ inl o ↦ absurd (e.0 o) | inr m ↦ absurd (m (ends ps c)) ]
     ]),
   )

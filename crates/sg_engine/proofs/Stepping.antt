@@ -3,13 +3,13 @@ use Rattle.std.proofs.Common.{◌≡◌, ℕ, ◌<◌, ◌+◌, List, [], ◌∷
 use Rattle.std.specs.List.{Contains, AllByRecursion}
 use Rattle.std.proofs.lemmas.List.Elements.{Contains-append_left, Contains-append_cases, Contains-push}
 use Rattle.sg_base.specs.declared.scope.Scope.{Scope}
-use Rattle.sg_base.specs.Graph.{IsGraph, HasDatum, row_of}
+use Rattle.sg_base.specs.Graph.{HasDatum}
 use Rattle.sg_base.specs.List.{IsDistinct}
 use Rattle.sg_base.specs.Path.{PathOf, end_of}
 use Rattle.sg_base.specs.State.{State}
 use Rattle.sg_base.proofs.Finite.{single, Contains-map, Distinct-push}
 use Rattle.sg_base.proofs.Scopes.{path_by}
-use Rattle.sg_expr.specs.declared.expr.Expr.{Expr}
+use Rattle.sg_expr.specs.Tree.{ExprOf}
 use Rattle.sg_query.specs.declared.found.Found.{Found}
 use Rattle.sg_query.specs.Query.{Asked}
 use Rattle.sg_query.specs.State.{Item, next, whole}
@@ -18,7 +18,7 @@ use Rattle.sg_engine.specs.declared.found_at.FoundAt.{FoundAt}
 use Rattle.sg_engine.specs.Nodes.{NodeOf as Node}
 use Rattle.sg_engine.specs.declared.work.Work.{Work}
 use Rattle.sg_engine.specs.declared.work.Work.TheVariants.{Next, Whole}
-use Rattle.sg_engine.specs.Front.{Front, Stands}
+use Rattle.sg_engine.specs.Front.{Front, AreTargets, Stands}
 use Rattle.sg_engine.specs.Growth.{Gains, with_left, one_explored, into_targets}
 use Rattle.sg_engine.specs.Tree.{path_at, paths_of, item_of, place_of, found_of, front_on, IsTreeOn, BlocksWork}
 use Rattle.sg_engine.proofs.Exploring.{stands_next, stands_whole}
@@ -36,7 +36,7 @@ each_push P [] x a p = (p, tt)
 each_push P (y ∷ xs) x a p = (a.0, each_push P xs x a.1 p)
 
 -- the tree after an item that was taken is explored, with what was found then
-pub tree_took : {D : Type 0} (e : Expr) (start : Scope) (nodes : List Node) (b r : List Work) (w : Work) (found found' : List (FoundAt D)) (explored going : ℕ) → AllByRecursion (λ f. f.place < length nodes) found' → IsTreeOn e start nodes (b ++ w ∷ r) found explored going → IsTreeOn e start nodes (b ++ r) found' (explored + 1) going
+pub tree_took : {D : Type 0} (e : ExprOf) (start : Scope) (nodes : List Node) (b r : List Work) (w : Work) (found found' : List (FoundAt D)) (explored going : ℕ) → AllByRecursion (λ f. f.place < length nodes) found' → IsTreeOn e start nodes (b ++ w ∷ r) found explored going → IsTreeOn e start nodes (b ++ r) found' (explored + 1) going
 tree_took e start nodes b r w found found' explored going placed tree = record {
   root = tree.root;
   node = tree.node;
@@ -51,19 +51,19 @@ tree_took e start nodes b r w found found' explored going placed tree = record {
 -- ---- one item
 
 module _ {D : Type 0} (h : State D) (q : Asked D) (nodes : List Node) (blocked work : List Work) (found : List (FoundAt D)) (explored going : ℕ) where
-  next_here : (k l : ℕ) → IsGraph h.graph → (now : Front D) → Stands h q (front_on q.start nodes (blocked ++ Next k l ∷ work) found explored going) → (BlocksWork h q.start nodes (Next k l) → ⊥) → Gains q.expr (front_on q.start nodes (blocked ++ work) found (explored + 1) going) now (into_targets q.start (path_at (paths_of nodes) k) l (row_of h.graph (end_of q.start (path_at (paths_of nodes) k)) l)) → Stands h q now
-  next_here k l ok now s free gains =
+  next_here : (k l : ℕ) (ts : List Scope) → AreTargets h q (path_at (paths_of nodes) k) l ts → (now : Front D) → Stands h q (front_on q.start nodes (blocked ++ Next k l ∷ work) found explored going) → (BlocksWork h q.start nodes (Next k l) → ⊥) → Gains q.expr (front_on q.start nodes (blocked ++ work) found (explored + 1) going) now (into_targets q.start (path_at (paths_of nodes) k) l ts) → Stands h q now
+  next_here k l ts targets now s free gains =
       let at = map-append (item_of (paths_of nodes)) blocked (Next k l ∷ work) in
       let f : Front D = front_on q.start nodes (blocked ++ Next k l ∷ work) found explored going in
-      let cut : Gains q.expr (one_explored (with_left f (map (item_of (paths_of nodes)) blocked ++ map (item_of (paths_of nodes)) work))) now (into_targets q.start (path_at (paths_of nodes) k) l (row_of h.graph (end_of q.start (path_at (paths_of nodes) k)) l)) =
-      subst (λ (t : List Item). Gains q.expr (one_explored (with_left f t)) now (into_targets q.start (path_at (paths_of nodes) k) l (row_of h.graph (end_of q.start (path_at (paths_of nodes) k)) l))) (map-append (item_of (paths_of nodes)) blocked work) gains in (
+      let cut : Gains q.expr (one_explored (with_left f (map (item_of (paths_of nodes)) blocked ++ map (item_of (paths_of nodes)) work))) now (into_targets q.start (path_at (paths_of nodes) k) l ts) =
+      subst (λ (t : List Item). Gains q.expr (one_explored (with_left f t)) now (into_targets q.start (path_at (paths_of nodes) k) l ts)) (map-append (item_of (paths_of nodes)) blocked work) gains in (
         next (path_at (paths_of nodes) k) l ∷ s.0,
-        stands_next h q f s.0 s.1 (map (item_of (paths_of nodes)) blocked) (map (item_of (paths_of nodes)) work) (path_at (paths_of nodes) k) l at free ok now cut,
+        stands_next h q f s.0 s.1 (map (item_of (paths_of nodes)) blocked) (map (item_of (paths_of nodes)) work) (path_at (paths_of nodes) k) l at free ts targets now cut,
       )
 
-  pub step_next : (start : Scope) → q.start ≡ start → (k l : ℕ) → IsGraph h.graph → (now : Front D) → Stands h q (front_on start nodes (blocked ++ Next k l ∷ work) found explored going) → (BlocksWork h start nodes (Next k l) → ⊥) → Gains q.expr (front_on start nodes (blocked ++ work) found (explored + 1) going) now (into_targets start (path_at (paths_of nodes) k) l (row_of h.graph (end_of start (path_at (paths_of nodes) k)) l)) → Stands h q now
-  step_next start e k l ok now =
-      subst (λ (t : Scope). Stands h q (front_on t nodes (blocked ++ Next k l ∷ work) found explored going) → (BlocksWork h t nodes (Next k l) → ⊥) → Gains q.expr (front_on t nodes (blocked ++ work) found (explored + 1) going) now (into_targets t (path_at (paths_of nodes) k) l (row_of h.graph (end_of t (path_at (paths_of nodes) k)) l)) → Stands h q now) e (next_here k l ok now)
+  pub step_next : (start : Scope) → q.start ≡ start → (k l : ℕ) (ts : List Scope) → AreTargets h q (path_at (paths_of nodes) k) l ts → (now : Front D) → Stands h q (front_on start nodes (blocked ++ Next k l ∷ work) found explored going) → (BlocksWork h start nodes (Next k l) → ⊥) → Gains q.expr (front_on start nodes (blocked ++ work) found (explored + 1) going) now (into_targets start (path_at (paths_of nodes) k) l ts) → Stands h q now
+  step_next start e k l ts targets now =
+      subst (λ (t : Scope). Stands h q (front_on t nodes (blocked ++ Next k l ∷ work) found explored going) → (BlocksWork h t nodes (Next k l) → ⊥) → Gains q.expr (front_on t nodes (blocked ++ work) found (explored + 1) going) now (into_targets t (path_at (paths_of nodes) k) l ts) → Stands h q now) e (next_here k l ts targets now)
 
   abbrev pub Reads : Scope → ℕ → List (FoundAt D) → Type 0
   Reads start k found' =

@@ -3,7 +3,7 @@ use Rattle.std.proofs.Common.{◌≡◌, ◌<◌, ◌≤◌, ◌+◌, List, [], 
 use Rattle.std.specs.List.{AllByRecursion}
 use Rattle.sg_base.specs.declared.scope.Scope.{Scope}
 use Rattle.sg_base.specs.State.{State}
-use Rattle.sg_expr.specs.declared.expr.Expr.{Expr}
+use Rattle.sg_expr.specs.Tree.{ExprOf}
 use Rattle.sg_query.specs.Query.{Asked}
 use Rattle.sg_engine.specs.declared.tree.Tree.{Tree}
 use Rattle.sg_engine.specs.declared.work.Work.{Work}
@@ -22,7 +22,7 @@ module _ {D : Type 0} (t : Tree D) (w : Work) (blocked : List Work) (more : bloc
   still_left : t.blocked.items ++ w ∷ work ≡ blocked ++ work
   still_left = sym (ap (λ (r : List Work). r ++ work) more ∙ append_assoc t.blocked.items (w ∷ []) work)
 
-  pub aside_tree : (e : Expr) → IsTreeWith e w t → IsTreeOn e t.start t.nodes.items (blocked ++ drop t.next t.queue.items) t.found.items t.explored t.going × (t.next ≤ length t.queue.items)
+  pub aside_tree : (e : ExprOf) → IsTreeWith e w t → IsTreeOn e t.start t.nodes.items (blocked ++ drop t.next t.queue.items) t.found.items t.explored t.going × (t.next ≤ length t.queue.items)
   aside_tree e tree = (subst (λ (r : List Work). IsTreeOn e t.start t.nodes.items r t.found.items t.explored t.going) still_left tree.0, tree.1)
 
   pub aside_stands : (h : State D) (q : Asked D) → StandsWith h q w t → Stands h q (front_on t.start t.nodes.items (blocked ++ drop t.next t.queue.items) t.found.items t.explored t.going)

@@ -1,5 +1,5 @@
 -- Where a search stands in a state: which closed paths it found, and which items it has explored and which not.
-use Rattle.std.specs.Prelude.{◌≡◌, ℕ, List, [], ◌∷◌, ◌++◌, ◌↔◌, ◌⊎◌, IsTrue, length, map}
+use Rattle.std.specs.Prelude.{◌≡◌, ℕ, List, [], ◌∷◌, ◌++◌, ◌↔◌, ◌⊎◌, IsTrue, false, length, map}
 use Rattle.std.specs.List.{Contains}
 use Rattle.sg_base.specs.declared.scope.Scope.{Scope}
 use Rattle.sg_base.specs.declared.step.Step.{Step}
@@ -7,7 +7,7 @@ use Rattle.sg_base.specs.Graph.{HasEdge, HasDatum}
 use Rattle.sg_base.specs.List.{IsDistinct, IsCount}
 use Rattle.sg_base.specs.Path.{end_of, word_of, reached_by}
 use Rattle.sg_base.specs.State.{State, IsOpen, IsUnset, IsClosedPath}
-use Rattle.sg_expr.specs.declared.expr.Expr.{Expr}
+use Rattle.sg_expr.specs.Tree.{ExprOf}
 use Rattle.sg_expr.specs.Word.{In, IsViable, IsContinuable}
 use Rattle.sg_query.specs.declared.found.Found.{Found}
 use Rattle.sg_query.specs.Answer.{Reaches}
@@ -29,7 +29,7 @@ path_of (next ps l) = ps
 path_of (whole ps) = ps
 
 -- the expression has this next label after the item's path, or the path's word
-abbrev pub IsOffered : Expr → Item → Type 0
+abbrev pub IsOffered : ExprOf → Item → Type 0
 IsOffered e (next ps l) = IsViable e (word_of ps ++ l ∷ [])
 IsOffered e (whole ps) = In e (word_of ps)
 
@@ -42,15 +42,33 @@ IsBlocked h start (whole ps) = IsUnset h (end_of start ps)
 abbrev pub step_to : ℕ → Scope → Step
 step_to l t = record { label = l; to = t }
 
--- the item is not blocked, and what it leads to was found
+-- the path's end has a datum that is there and that the query does not want
+abbrev pub IsIdle : {D : Type 0} → State D → Asked D → List Step → Type 0
+IsIdle {D} h q ps = (IsUnset h (end_of q.start ps) → ⊥) × ((d : D) × HasDatum h.graph (end_of q.start ps) d × (q.wants d ≡ false))
+
+-- nothing is to be found behind the path: its word does not go on, and its end is idle
+abbrev pub IsBarren : {D : Type 0} → State D → Asked D → List Step → Type 0
+IsBarren h q ps = (IsContinuable q.expr (word_of ps) → ⊥) × IsIdle h q ps
+
+-- the path was found, or nothing is to be found behind it
+abbrev pub IsMet : {D : Type 0} → State D → Asked D → List (List Step) → List Step → Type 0
+IsMet h q paths ps = Contains paths ps ⊎ IsBarren h q ps
+
+-- these are targets of the row into which the path goes on, each once; behind each other one there is nothing to be found
+pub record AreTargets {D : Type 0} (h : State D) (q : Asked D) (ps : List Step) (l : ℕ) (ts : List Scope) : Type 0 where
+  pub from : (t : Scope) → Contains ts t → HasEdge h.graph (end_of q.start ps) l t
+  pub once : IsDistinct ts
+  pub all : (t : Scope) → HasEdge h.graph (end_of q.start ps) l t → Contains ts t ⊎ IsBarren h q (ps ++ step_to l t ∷ [])
+
+-- the item is not blocked, and what it leads to was met
 abbrev pub IsExplored : {D : Type 0} → State D → Asked D → List (List Step) → List (Found D) → Item → Type 0
 IsExplored h q paths found (next ps l) =
-    (IsOpen h (end_of q.start ps) l → ⊥) × ((t : Scope) → HasEdge h.graph (end_of q.start ps) l t → (Contains (q.start ∷ reached_by ps) t → ⊥) → Contains paths (ps ++ step_to l t ∷ []))
+    (IsOpen h (end_of q.start ps) l → ⊥) × ((t : Scope) → HasEdge h.graph (end_of q.start ps) l t → (Contains (q.start ∷ reached_by ps) t → ⊥) → IsMet h q paths (ps ++ step_to l t ∷ []))
 IsExplored {D} h q paths found (whole ps) =
     (IsUnset h (end_of q.start ps) → ⊥) × ((f : Found D) → f.path.start ≡ q.start → f.path.steps ≡ ps → HasDatum h.graph (end_of q.start ps) f.datum → IsTrue (q.wants f.datum) → Contains found f)
 
 -- a path of these whose word goes on
-abbrev pub GoesOnAmong : Expr → List (List Step) → List Step → Type 0
+abbrev pub GoesOnAmong : ExprOf → List (List Step) → List Step → Type 0
 GoesOnAmong e paths ps = Contains paths ps × IsContinuable e (word_of ps)
 
 -- the items that were explored are these, and all else that the front's paths offer is left; a path came with the exploring of the item that

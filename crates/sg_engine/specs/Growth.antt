@@ -5,7 +5,7 @@ use Rattle.sg_base.specs.declared.scope.Scope.{Scope}
 use Rattle.sg_base.specs.declared.step.Step.{Step}
 use Rattle.sg_base.specs.List.{IsDistinct}
 use Rattle.sg_base.specs.Path.{word_of}
-use Rattle.sg_expr.specs.declared.expr.Expr.{Expr}
+use Rattle.sg_expr.specs.Tree.{ExprOf}
 use Rattle.sg_expr.specs.Word.{IsContinuable}
 use Rattle.sg_query.specs.declared.found.Found.{Found}
 use Rattle.sg_query.specs.State.{Item}
@@ -18,7 +18,7 @@ Keeps P [] ys = ys ≡ []
 Keeps {X} P (x ∷ xs) ys = (P x × ((zs : List X) × (ys ≡ x ∷ zs) × Keeps P xs zs)) ⊎ ((P x → ⊥) × Keeps P xs ys)
 
 -- the new front has these paths more, and each item that they offer
-pub record Gains {D : Type 0} (e : Expr) (old now : Front D) (more : List (List Step)) : Type 0 where
+pub record Gains {D : Type 0} (e : ExprOf) (old now : Front D) (more : List (List Step)) : Type 0 where
   pub paths : now.paths ≡ old.paths ++ more
   pub items : (news : List Item) × (now.left ≡ old.left ++ news) × (IsDistinct more → IsDistinct news) × ((x : Item) → (Contains news x) ↔ (Contains more (path_of x) × IsOffered e x))
   pub goers : (gs : List (List Step)) × (now.going ≡ old.going + length gs) × Keeps (λ ps. IsContinuable e (word_of ps)) more gs

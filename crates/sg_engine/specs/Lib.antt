@@ -1,6 +1,7 @@
 pub mod Back
 pub mod Front
 pub mod Growth
+pub mod Keyed
 pub mod Law
 pub mod Need
 pub mod Nodes

@@ -1,50 +1,40 @@
 -- The nodes of a tree of paths, and the words that may follow them.
-use Rattle.std.specs.Prelude.{◌≡◌, ℕ, zero, suc, ◌<◌, List, [], ◌∷◌, ◌↔◌, false, IsTrue, length, slice_index_or}
+use Rattle.std.specs.Prelude.{◌≡◌, ℕ, ◌<◌, List, ◌∷◌, ◌↔◌, false, IsTrue, length, slice_index_or}
 use Rattle.std.specs.List.{list_any}
 use Rattle.sg_base.specs.declared.scope.Scope.{Scope}
 use Rattle.sg_base.specs.Scope.{is_scope}
 use Rattle.sg_base.specs.declared.step.Step.{Step}
 use Rattle.sg_base.specs.Label.{Word}
-use Rattle.sg_expr.specs.declared.expr.Expr.{Expr}
-use Rattle.sg_expr.specs.declared.expr.Expr.TheVariants.{Nothing}
-use Rattle.sg_expr.specs.Word.{In}
+use Rattle.sg_expr.specs.Positions.{PositionsOf, Accepts}
 use Rattle.sg_engine.specs.declared.nodes.Node.{Node}
 
--- a path as another path with one more step, by the place of that path's node, and the expression of the words that may follow its word
+-- the words that may follow, by a set of positions
+pub record RestOf : Type 0 where
+  pub words : PositionsOf
+  pub set : ℕ
+
+-- the word is one of those that may follow
+abbrev pub InRest : RestOf → Word → Type 0
+InRest r w = Accepts r.words r.set w
+
+-- a path as another path with one more step, and the words that may follow its word
 pub record NodeOf : Type 0 where
   pub parent : ℕ
   pub step : Step
-  pub rest : Expr
+  pub rest : RestOf
 
--- the expression of words, and the place of the words and the label from which they came
-pub record RestOf : Type 0 where
-  pub expr : Expr
-  pub from : ℕ
-  pub label : ℕ
-
--- the words that may follow, and the nodes
+-- the positions of the words that a search follows, and the nodes
 pub record NodesOf : Type 0 where
-  pub rests : List RestOf
+  pub words : PositionsOf
   pub items : List NodeOf
 
--- the expression at a place, if there is one
-abbrev pub rest_at : List RestOf → ℕ → Expr
-rest_at [] k = Nothing
-rest_at (r ∷ rs) zero = r.expr
-rest_at (r ∷ rs) (suc k) = rest_at rs k
+-- a node by these positions
+abbrev pub node_by : PositionsOf → Node → NodeOf
+node_by words n = record { parent = n.parent; step = n.step; rest = record { words = words; set = n.set } }
 
--- a node with the expression that stands at its place
-abbrev pub node_by : List RestOf → Node → NodeOf
-node_by rests n = record { parent = n.parent; step = n.step; rest = rest_at rests n.rest }
-
--- but for the first, each has the words of another that its label begins, without that label
-abbrev pub AreRests : List RestOf → Type 0
-AreRests rests =
-    (i : ℕ) (r : RestOf) → 0 < i → i < length rests → r ≡ slice_index_or rests i r → (r.from < length rests) × ((w : Word) → (In r.expr w) ↔ (In (rest_at rests r.from) (r.label ∷ w)))
-
--- the words at this place are those that follow a node over a label
+-- this set has the words that follow a node over a label
 abbrev pub IsRestAfter : NodesOf → ℕ → ℕ → ℕ → Type 0
-IsRestAfter ns place l rest = (n : NodeOf) → n ≡ slice_index_or ns.items place n → (w : Word) → (In (rest_at ns.rests rest) w) ↔ (In n.rest (l ∷ w))
+IsRestAfter ns place l set = (n : NodeOf) → n ≡ slice_index_or ns.items place n → (w : Word) → (Accepts ns.words set w) ↔ (InRest n.rest (l ∷ w))
 
 -- the scope is one of those that are passed
 abbrev pub IsPassed : List Scope → Scope → Type 0

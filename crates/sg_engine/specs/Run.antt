@@ -2,6 +2,7 @@
 use Rattle.std.specs.Prelude.{◌≡◌, ◌≢◌, ℕ, ◌+◌, ◌<◌, ◌≤◌, List, [], ◌∷◌, ◌++◌, Bool, true, false, ◌⊎◌, length, drop}
 use Rattle.std.specs.List.{Contains}
 use Rattle.sg_base.specs.declared.scope.Scope.{Scope}
+use Rattle.sg_base.specs.declared.step.Step.{Step}
 use Rattle.sg_base.specs.State.{State}
 use Rattle.sg_query.specs.Answer.{most_paths}
 use Rattle.sg_query.specs.Query.{Asked}
@@ -18,7 +19,9 @@ use Rattle.sg_engine.specs.declared.run.Run.{Run}
 use Rattle.sg_engine.specs.declared.run.Run.TheVariants as r
 use Rattle.sg_engine.specs.declared.tree.Tree.{Tree}
 use Rattle.sg_engine.specs.declared.work.Work.{Work}
+use Rattle.sg_state.specs.Held.{HeldOf, state_of}
 use Rattle.sg_engine.specs.Front.{Stands, IsBlocked, AllBlocked}
+use Rattle.sg_engine.specs.Keyed.{Wanting, PassesOver}
 use Rattle.sg_engine.specs.Tree.{path_at, paths_of, left_of, front_of, front_on, IsTreeOn, AllBlock, BlocksWork}
 
 -- too many paths go on; or blocked work was put aside, up to the queue's end, or up to the first that is free
@@ -29,14 +32,15 @@ HasLooked h old new Over =
 HasLooked h old new (Free w) =
     (old.going ≤ most_paths) × (left_of new ≡ left_of old) × (drop new.next old.queue.items ≡ w ∷ drop (new.next + 1) old.queue.items) × (new.next < length old.queue.items) × (AllBlock h old.start old.nodes.items old.blocked.items → AllBlock h old.start old.nodes.items new.blocked.items) × (BlocksWork h old.start old.nodes.items w → ⊥)
 
--- these are the parts of a search for what the query asks, which stands in the state
-abbrev pub IsSearchOn : {D : Type 0} → State D → (D → Bool) → Asked D → Scope → List Node → List Work → List (FoundAt D) → ℕ → ℕ → Type 0
-IsSearchOn h wants q start nodes left found explored going =
-    (q.start ≡ start) × (q.wants ≡ wants) × IsTreeOn q.expr start nodes left found explored going × Stands h q (front_on start nodes left found explored going)
+-- these are the parts of a search for what the query asks, which stands in the held graph, and which passes over what it is to pass over where it did
+-- so among these paths
+abbrev pub IsSearchOn : {D : Type 0} → HeldOf D → Wanting D → List (List Step) → Asked D → Scope → List Node → List Work → List (FoundAt D) → ℕ → ℕ → Type 0
+IsSearchOn h k ps q start nodes left found explored going =
+    (q.start ≡ start) × (q.wants ≡ k.wants) × IsTreeOn q.expr start nodes left found explored going × Stands (state_of h) q (front_on start nodes left found explored going) × (PassesOver h k q ps → PassesOver h k q (paths_of nodes))
 
--- the tree is that of a search for what the query asks, which stands in the state
-abbrev pub IsSearchIn : {D : Type 0} → State D → (D → Bool) → Asked D → Tree D → Type 0
-IsSearchIn h wants q t = IsSearchOn h wants q t.start t.nodes.items (left_of t) t.found.items t.explored t.going × (t.next ≤ length t.queue.items)
+-- the tree is that of such a search
+abbrev pub IsSearchIn : {D : Type 0} → HeldOf D → Wanting D → List (List Step) → Asked D → Tree D → Type 0
+IsSearchIn h k ps q t = IsSearchOn h k ps q t.start t.nodes.items (left_of t) t.found.items t.explored t.going × (t.next ≤ length t.queue.items)
 
 -- where all that was put aside is blocked, it still is
 abbrev pub KeepsBlocked : {D : Type 0} → State D → Tree D → Tree D → Type 0

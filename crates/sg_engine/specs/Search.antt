@@ -2,17 +2,14 @@
 use Rattle.std.specs.Prelude.{◌≡◌, ◌≢◌, ◌+◌, ◌<◌, ◌≤◌, List, [], Bool, ◌⊎◌, ◌↔◌, Option, Some, length}
 use Rattle.std.specs.List.{Contains}
 use Rattle.sg_base.specs.declared.mark.Mark.{Mark}
-use Rattle.sg_base.specs.Label.{Word}
 use Rattle.sg_base.specs.List.{IsRising, MoreThan}
 use Rattle.sg_base.specs.State.{State}
-use Rattle.sg_expr.specs.declared.expr.Expr.{Expr}
-use Rattle.sg_expr.specs.Word.{In}
+use Rattle.sg_expr.specs.Tree.{ExprOf}
 use Rattle.sg_query.specs.declared.answer.Answer.{Answer}
 use Rattle.sg_query.specs.declared.answer.Answer.TheVariants.{Paths, TooMany}
-use Rattle.sg_query.specs.declared.kind.Kind.{Kind}
 use Rattle.sg_query.specs.declared.query.Query.{Query}
 use Rattle.sg_query.specs.Answer.{most_paths, found_cmp, IsAnswer}
-use Rattle.sg_query.specs.Query.{Asked, kind_of}
+use Rattle.sg_query.specs.Query.{Asked, KindOf, kind_of}
 use Rattle.sg_query.specs.Shadow.{AreUnshadowed}
 use Rattle.sg_query.specs.State.{Item, IsItem, IsSettled}
 use Rattle.sg_state.specs.declared.need.Need.{Need}
@@ -21,19 +18,19 @@ use Rattle.sg_engine.specs.declared.progress.Progress.TheVariants.{Moved, Blocke
 use Rattle.sg_engine.specs.Front.{Front, IsBlocked, AllBlocked}
 use Rattle.sg_engine.specs.Need.{AreNeeds}
 
--- a search: its query, an expression of the words that it follows, its front, and, where the last advance was blocked or ready, what blocked it
+-- a search: its query, the expression of the words that it follows, its front, and, where the last advance was blocked or ready, what blocked it
 -- or the answer
 pub record SearchOf (P D : Type 0) : Type 0 where
   pub query : Query P
-  pub expr : Expr
+  pub expr : ExprOf
   pub front : Front D
   pub needs : List Need
   pub answer : Option (Answer D)
 
--- the search follows the words of the kind that its query names in this table
-pub record IsOfTable {P D : Type 0} (kinds : List Kind) (s : SearchOf P D) : Type 0 where
+-- the search follows the expression of the kind that its query names in this table
+pub record IsOfTable {P D : Type 0} (kinds : List KindOf) (s : SearchOf P D) : Type 0 where
   pub kind : s.query.kind < length kinds
-  pub words : (w : Word) → (In s.expr w) ↔ (In (kind_of kinds s.query.kind).expr w)
+  pub expr : s.expr ≡ (kind_of kinds s.query.kind).expr
 
 -- the answer by what a front found: too many of its paths go on, or the rising list of the paths that no other found path shadows
 abbrev pub AnswersBy : {D : Type 0} → (D → D → Bool) → (Mark → Mark → Bool) → Front D → Answer D → Type 0

@@ -6,14 +6,13 @@ use Rattle.sg_base.specs.declared.step.Step.{Step}
 use Rattle.sg_base.specs.Label.{Word}
 use Rattle.sg_base.specs.Path.{end_of, word_of}
 use Rattle.sg_base.specs.State.{State}
-use Rattle.sg_expr.specs.declared.expr.Expr.{Expr}
-use Rattle.sg_expr.specs.declared.expr.Expr.TheVariants.{Nothing}
+use Rattle.sg_expr.specs.Tree.{ExprOf}
 use Rattle.sg_expr.specs.Word.{In}
 use Rattle.sg_query.specs.declared.found.Found.{Found}
 use Rattle.sg_query.specs.Query.{Asked}
 use Rattle.sg_query.specs.State.{Item, next, whole}
 use Rattle.sg_engine.specs.declared.found_at.FoundAt.{FoundAt}
-use Rattle.sg_engine.specs.Nodes.{NodeOf as Node}
+use Rattle.sg_engine.specs.Nodes.{NodeOf as Node, RestOf, InRest}
 use Rattle.sg_engine.specs.declared.spent.Spent.{Spent}
 use Rattle.sg_engine.specs.declared.tree.Tree.{Tree}
 use Rattle.sg_engine.specs.declared.work.Work.{Work}
@@ -36,11 +35,6 @@ abbrev pub paths_of : List Node → List (List Step)
 paths_of [] = []
 paths_of (n ∷ ns) = paths_from ([] ∷ []) ns
 
--- the words that the root goes on with: those of the search
-abbrev pub expr_of : List Node → Expr
-expr_of [] = Nothing
-expr_of (n ∷ ns) = n.rest
-
 -- the item of a piece of work
 abbrev pub item_of : List (List Step) → Work → Item
 item_of paths (Next k l) = next (path_at paths k) l
@@ -51,15 +45,15 @@ abbrev pub place_of : Work → ℕ
 place_of (Next k l) = k
 place_of (Whole k) = k
 
--- a node ends where its path does, and its expression has the words that go on from its path's
-pub record IsNodeOf (start : Scope) (e : Expr) (n : Node) (ps : List Step) : Type 0 where
+-- a node ends where its path does, and the words that may follow it are those that go on from its path's
+pub record IsNodeOf (start : Scope) (e : ExprOf) (n : Node) (ps : List Step) : Type 0 where
   pub ends : end_of start ps ≡ n.step.to
-  pub rest : (w : Word) → (In n.rest w) ↔ (In e (word_of ps ++ w))
+  pub rest : (w : Word) → (InRest n.rest w) ↔ (In e (word_of ps ++ w))
 
 -- the work that a node's path offers, by the words that go on from it
-abbrev pub IsWorkOf : Expr → ℕ → Work → Type 0
-IsWorkOf e place (Next k l) = (k ≡ place) × ((w : Word) × In e (l ∷ w))
-IsWorkOf e place (Whole k) = (k ≡ place) × In e []
+abbrev pub IsWorkOf : RestOf → ℕ → Work → Type 0
+IsWorkOf r place (Next k l) = (k ≡ place) × ((w : Word) × InRest r (l ∷ w))
+IsWorkOf r place (Whole k) = (k ≡ place) × InRest r []
 
 -- the path that was found at a node, with its datum
 abbrev pub found_of : {D : Type 0} → Scope → List (List Step) → FoundAt D → Found D
@@ -84,11 +78,11 @@ abbrev pub front_of : {D : Type 0} → Tree D → Front D
 front_of t = front_on t.start t.nodes.items (left_of t) t.found.items t.explored t.going
 
 -- each node ends where its path does, and has the words that go on
-abbrev pub AreNodes : Expr → Scope → List Node → Type 0
+abbrev pub AreNodes : ExprOf → Scope → List Node → Type 0
 AreNodes e start nodes = (i : ℕ) (n : Node) → i < length nodes → n ≡ slice_index_or nodes i n → IsNodeOf start e n (path_at (paths_of nodes) i)
 
 -- the nodes are a tree whose paths begin at the start, what is left and what was found stands at nodes, and a node offers 17 items at most
-pub record IsTreeOn {D : Type 0} (e : Expr) (start : Scope) (nodes : List Node) (left : List Work) (found : List (FoundAt D)) (explored going : ℕ) : Type 0 where
+pub record IsTreeOn {D : Type 0} (e : ExprOf) (start : Scope) (nodes : List Node) (left : List Work) (found : List (FoundAt D)) (explored going : ℕ) : Type 0 where
   pub root : 0 < length nodes
   pub node : AreNodes e start nodes
   pub first : path_at (paths_of nodes) 0 ≡ []
@@ -99,11 +93,11 @@ pub record IsTreeOn {D : Type 0} (e : Expr) (start : Scope) (nodes : List Node) 
   pub counted : explored + length left ≤ 17 * length nodes
 
 -- the tree is one of paths from its start along the words of the expression
-abbrev pub IsTree : {D : Type 0} → Expr → Tree D → Type 0
+abbrev pub IsTree : {D : Type 0} → ExprOf → Tree D → Type 0
 IsTree e t = IsTreeOn e t.start t.nodes.items (left_of t) t.found.items t.explored t.going × (t.next ≤ length t.queue.items)
 
 -- the same where this work was taken from what is left
-abbrev pub IsTreeWith : {D : Type 0} → Expr → Work → Tree D → Type 0
+abbrev pub IsTreeWith : {D : Type 0} → ExprOf → Work → Tree D → Type 0
 IsTreeWith e w t =
     IsTreeOn e t.start t.nodes.items (t.blocked.items ++ w ∷ drop t.next t.queue.items) t.found.items t.explored t.going × (t.next ≤ length t.queue.items)
 

@@ -1,15 +1,14 @@
 ghost use Rattle.std.specs.Prelude.{◌≡◌, ◌<◌, IfOk, length, map};
 ghost use Rattle.sg_base.specs.List.{IsDistinct};
-ghost use Rattle.sg_expr.specs.declared.expr.Expr.{Expr as ExprOf};
+ghost use Rattle.sg_expr.specs.Tree.{ExprOf};
 ghost use Rattle.sg_order.specs.Order.{precedes};
 ghost use Rattle.sg_engine.specs.Search.{AnswersBy};
 ghost use Rattle.sg_engine.specs.Tree.{path_at, paths_of, found_of, front_of, IsTree};
 
-use crate::look::MOST_PATHS;
 use crate::tree::Tree;
 use sg_base::{Instance, Path};
 use sg_order::Order;
-use sg_query::{Answer, Found, FoundPaths, visible_of};
+use sg_query::{Answer, Found, FoundPaths, MOST_PATHS, visible_of};
 use std::alloc::{AllocError, Global};
 
 /// The path of a node, in the time of its length.
@@ -46,7 +45,8 @@ fn found_paths<I: Instance>(
     Ok(found)
 }
 
-/// The answer by what was found. Compares each two paths that were found.
+/// The answer by what was found. Where the order has a pair, found paths whose data have one key are compared, each with
+/// each; and the paths are sorted.
 pub fn answer_of<I: Instance>(
     alloc: Global,
     tree: &Tree<I::Datum>,
@@ -60,6 +60,6 @@ pub fn answer_of<I: Instance>(
         return Ok(Answer::TooMany);
     }
     let all = found_paths::<I>(alloc, tree)?;
-    let visible = visible_of::<I>(alloc, order, all.as_slice())?;
-    Ok(Answer::Paths(FoundPaths::new(visible)))
+    let visible = visible_of::<I>(alloc, order, all)?;
+    Ok(Answer::Paths(FoundPaths::new(alloc, visible)?))
 }

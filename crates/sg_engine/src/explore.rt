@@ -1,32 +1,95 @@
-ghost use Rattle.std.specs.Prelude.{◌≡◌, ◌<◌, OnOk, IfOk, length};
-ghost use Rattle.sg_expr.specs.declared.expr.Expr.{Expr as ExprOf};
+ghost use Rattle.std.specs.Prelude.{◌≡◌, ◌≢◌, ◌<◌, [], List, Some, OnOk, IfOk, length};
+ghost use Rattle.sg_base.specs.declared.scope.Scope.{Scope as ScopeOf};
+ghost use Rattle.sg_base.specs.Graph.{row_of};
+ghost use Rattle.sg_base.specs.Label.{Word};
+ghost use Rattle.sg_base.specs.Path.{end_of};
+ghost use Rattle.sg_expr.specs.Positions.{Accepts};
+ghost use Rattle.sg_expr.specs.Tree.{ExprOf};
+ghost use Rattle.sg_base.specs.declared.step.Step.{Step as StepOf};
 ghost use Rattle.sg_query.specs.Query.{Asked};
 ghost use Rattle.sg_state.specs.Held.{IsHeld, state_of};
 ghost use Rattle.sg_engine.specs.declared.work.Work.TheVariants.{Next as NextOf, Whole as WholeOf};
 ghost use Rattle.sg_engine.specs.Front.{Stands};
+ghost use Rattle.sg_engine.specs.Growth.{Gains, into_targets};
+ghost use Rattle.sg_engine.specs.Keyed.{AreKeyedTargets, PassesOver, wanting_by};
+ghost use Rattle.sg_engine.specs.Nodes.{IsRestAfter};
 ghost use Rattle.sg_engine.specs.Run.{HasTaken, HasStepped, IsSearchIn, KeepsBlocked};
-ghost use Rattle.sg_engine.specs.Tree.{place_of, front_of, IsTree, IsTreeWith, StandsWith, ListsOn};
+ghost use Rattle.sg_engine.specs.Tree.{path_at, paths_of, place_of, front_of, IsTree, IsTreeWith, StandsWith, ListsOn};
 
 use crate::found_at::FoundAt;
-use crate::look::MOST_PATHS;
 use crate::tree::Tree;
 use crate::work::Work;
-use sg_base::{Instance, Label};
+use sg_base::{Instance, Label, Scope};
+use sg_query::MOST_PATHS;
 use sg_state::{DatumState, Held};
 use std::alloc::{AllocError, Global};
 
-/// Explores the next label of a node's path, or puts it aside where the row is open, by one look-up. Whether it explored it.
-fn take_row<I: Instance>(
-    alloc: Global,
+/// Adds the paths of a node with one more step to the targets of a closed row behind which the wanted datum may be: those
+/// under its key, and those without a key. No word goes on behind the label, which the words of this set follow.
+fn push_keyed<I: Instance>(
     tree: &mut Tree<I::Datum>,
     h: &Held<I>,
+    key: u64,
+    place: usize,
+    l: Label,
+    set: u64,
+) -> Result<(), AllocError>
+    requires tree { (e : ExprOf) × IsTree e tree.old }
+    requires there { place < length tree.old.nodes.items }
+    requires after { IsRestAfter tree.old.nodes place l set }
+    requires ends { (w : Word) × (w ≢ []) × Accepts tree.old.nodes.words set w → ⊥ }
+    ensures tree { (e : ExprOf) → IsTree e tree.old → OnOk result (IsTree e tree.new × ((ts : List ScopeOf) × Gains e (front_of tree.old) (front_of tree.new) (into_targets tree.old.start (path_at (paths_of tree.old.nodes.items) place) l ts) × ((q : Asked I.Datum) (p : I.Pred) → q.expr ≡ e → q.start ≡ tree.old.start → q.wants ≡ I.wants p → I.pred_key p ≡ Some key → AreKeyedTargets h.now (wanting_by I.wants I.datum_key I.pred_key p) q (path_at (paths_of tree.old.nodes.items) place) l ts))) }
+    ensures next { tree.new.next ≡ tree.old.next }
+    ensures explored { tree.new.explored ≡ tree.old.explored }
+    ensures blocked { tree.new.blocked ≡ tree.old.blocked }
+    ensures lists { ListsOn tree.old tree.new }
+{
+    let end = tree.nodes.at(place).step.to;
+    tree.push_targets(h.row_keyed(end, l, key), place, l, set)?;
+    tree.push_targets(h.row_rest(end, l), place, l, set)?;
+    Ok(())
+}
+
+/// Adds the paths of a node with one more step into a closed row, but for those that are passed over.
+fn push_row<I: Instance>(
+    tree: &mut Tree<I::Datum>,
+    h: &Held<I>,
+    pred: &I::Pred,
+    row: &[Scope],
+    place: usize,
+    l: Label,
+) -> Result<(), AllocError>
+    requires held { IsHeld h.now }
+    requires tree { (e : ExprOf) × IsTree e tree.old }
+    requires there { place < length tree.old.nodes.items }
+    requires row { row.now ≡ row_of h.now.graph (end_of tree.old.start (path_at (paths_of tree.old.nodes.items) place)) l }
+    ensures tree { (e : ExprOf) → IsTree e tree.old → OnOk result (IsTree e tree.new × ((ts : List ScopeOf) × Gains e (front_of tree.old) (front_of tree.new) (into_targets tree.old.start (path_at (paths_of tree.old.nodes.items) place) l ts) × ((q : Asked I.Datum) → q.expr ≡ e → q.start ≡ tree.old.start → q.wants ≡ I.wants pred.now → AreKeyedTargets h.now (wanting_by I.wants I.datum_key I.pred_key pred.now) q (path_at (paths_of tree.old.nodes.items) place) l ts))) }
+    ensures next { tree.new.next ≡ tree.old.next }
+    ensures explored { tree.new.explored ≡ tree.old.explored }
+    ensures blocked { tree.new.blocked ≡ tree.old.blocked }
+    ensures lists { ListsOn tree.old tree.new }
+{
+    let set = tree.nodes.set_after(place, l);
+    if !tree.nodes.words().goes_on(set) {
+        if let Some(key) = I::key_of_pred(pred) {
+            return push_keyed::<I>(tree, h, key, place, l, set);
+        }
+    }
+    tree.push_targets(row, place, l, set)
+}
+
+/// Explores the next label of a node's path, or puts it aside where the row is open. Whether it explored it.
+fn take_row<I: Instance>(
+    tree: &mut Tree<I::Datum>,
+    h: &Held<I>,
+    pred: &I::Pred,
     place: usize,
     l: Label,
 ) -> Result<bool, AllocError>
     requires held { IsHeld h.now }
     requires tree { (e : ExprOf) × IsTreeWith e (NextOf place l) tree.old }
     requires there { place < length tree.old.nodes.items }
-    ensures stands { (q : Asked I.Datum) → q.start ≡ tree.old.start → IsTreeWith q.expr (NextOf place l) tree.old → StandsWith (state_of h.now) q (NextOf place l) tree.old → OnOk result (IsTree q.expr tree.new × Stands (state_of h.now) q (front_of tree.new)) }
+    ensures stands { (q : Asked I.Datum) → q.start ≡ tree.old.start → q.wants ≡ I.wants pred.now → IsTreeWith q.expr (NextOf place l) tree.old → StandsWith (state_of h.now) q (NextOf place l) tree.old → OnOk result (IsTree q.expr tree.new × Stands (state_of h.now) q (front_of tree.new) × (PassesOver h.now (wanting_by I.wants I.datum_key I.pred_key pred.now) q (paths_of tree.old.nodes.items) → PassesOver h.now (wanting_by I.wants I.datum_key I.pred_key pred.now) q (paths_of tree.new.nodes.items))) }
     ensures taken { IfOk result (HasTaken (state_of h.now) (NextOf place l) tree.old tree.new) }
     ensures lists { ListsOn tree.old tree.new }
 {
@@ -38,7 +101,7 @@ fn take_row<I: Instance>(
         }
         Some(row) => {
             tree.explored += 1;
-            tree.push_row(alloc, row, place, l)?;
+            push_row::<I>(tree, h, pred, row, place, l)?;
             Ok(true)
         }
     }
@@ -56,6 +119,7 @@ fn take_datum<I: Instance>(
     requires tree { (e : ExprOf) × IsTreeWith e (WholeOf place) tree.old }
     requires there { place < length tree.old.nodes.items }
     ensures stands { (q : Asked I.Datum) → q.start ≡ tree.old.start → q.wants ≡ I.wants pred.now → IsTreeWith q.expr (WholeOf place) tree.old → StandsWith (state_of h.now) q (WholeOf place) tree.old → OnOk result (IsTree q.expr tree.new × Stands (state_of h.now) q (front_of tree.new)) }
+    ensures nodes { tree.new.nodes ≡ tree.old.nodes }
     ensures taken { IfOk result (HasTaken (state_of h.now) (WholeOf place) tree.old tree.new) }
     ensures lists { ListsOn tree.old tree.new }
 {
@@ -95,12 +159,12 @@ fn take<I: Instance>(
     requires held { IsHeld h.now }
     requires tree { (e : ExprOf) × IsTreeWith e w tree.old }
     requires there { place_of w < length tree.old.nodes.items }
-    ensures stands { (q : Asked I.Datum) → q.start ≡ tree.old.start → q.wants ≡ I.wants pred.now → IsTreeWith q.expr w tree.old → StandsWith (state_of h.now) q w tree.old → OnOk result (IsTree q.expr tree.new × Stands (state_of h.now) q (front_of tree.new)) }
+    ensures stands { (q : Asked I.Datum) → q.start ≡ tree.old.start → q.wants ≡ I.wants pred.now → IsTreeWith q.expr w tree.old → StandsWith (state_of h.now) q w tree.old → OnOk result (IsTree q.expr tree.new × Stands (state_of h.now) q (front_of tree.new) × (PassesOver h.now (wanting_by I.wants I.datum_key I.pred_key pred.now) q (paths_of tree.old.nodes.items) → PassesOver h.now (wanting_by I.wants I.datum_key I.pred_key pred.now) q (paths_of tree.new.nodes.items))) }
     ensures taken { IfOk result (HasTaken (state_of h.now) w tree.old tree.new) }
     ensures lists { ListsOn tree.old tree.new }
 {
     match w {
-        Work::Next(k, l) => take_row(alloc, tree, h, k, l),
+        Work::Next(k, l) => take_row::<I>(tree, h, pred, k, l),
         Work::Whole(k) => take_datum::<I>(alloc, tree, h, pred, k),
     }
 }
@@ -121,8 +185,8 @@ pub fn explore_next<I: Instance>(
     pred: &I::Pred,
 ) -> Result<Stepped, AllocError>
     requires held { IsHeld h.now }
-    requires stands { (q : Asked I.Datum) × IsSearchIn (state_of h.now) (I.wants pred.now) q tree.old }
-    ensures stands { (q : Asked I.Datum) → IsSearchIn (state_of h.now) (I.wants pred.now) q tree.old → IfOk result (λ _. IsSearchIn (state_of h.now) (I.wants pred.now) q tree.new) }
+    requires stands { (q : Asked I.Datum) × (ps : List (List StepOf)) × IsSearchIn h.now (wanting_by I.wants I.datum_key I.pred_key pred.now) ps q tree.old }
+    ensures stands { (q : Asked I.Datum) (ps : List (List StepOf)) → IsSearchIn h.now (wanting_by I.wants I.datum_key I.pred_key pred.now) ps q tree.old → IfOk result (λ _. IsSearchIn h.now (wanting_by I.wants I.datum_key I.pred_key pred.now) ps q tree.new) }
     ensures stepped { IfOk result (HasStepped tree.old tree.new) }
     ensures blocked { OnOk result (KeepsBlocked (state_of h.now) tree.old tree.new) }
     ensures lists { ListsOn tree.old tree.new }

@@ -15,7 +15,6 @@ mod needs;
 mod nodes;
 mod outcome;
 mod progress;
-mod rest;
 mod run;
 mod search;
 mod spent;

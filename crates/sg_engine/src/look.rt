@@ -1,6 +1,6 @@
 ghost use Rattle.std.specs.Prelude.{◌≡◌, ◌<◌, IsTrue, IsFalse, IfOk, length};
 ghost use Rattle.sg_base.specs.declared.scope.Scope.{Scope as ScopeOf};
-ghost use Rattle.sg_expr.specs.declared.expr.Expr.{Expr as ExprOf};
+ghost use Rattle.sg_expr.specs.Tree.{ExprOf};
 ghost use Rattle.sg_state.specs.Held.{state_of};
 ghost use Rattle.sg_engine.specs.Tree.{place_of, IsTree, AreNodes, BlocksWork, ListsOn};
 ghost use Rattle.sg_engine.specs.Run.{HasLooked};
@@ -9,11 +9,9 @@ use crate::nodes::Nodes;
 use crate::tree::Tree;
 use crate::work::Work;
 use sg_base::Instance;
+use sg_query::MOST_PATHS;
 use sg_state::Held;
 use std::alloc::AllocError;
-
-/// How many paths that go on a search looks at.
-pub const MOST_PATHS: usize = 4096;
 
 /// What a search sees next: that too many of its paths go on, that nothing free is left, or work whose item is not blocked.
 #[derive(Clone, Copy, Debug)]

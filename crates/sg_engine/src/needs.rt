@@ -2,7 +2,7 @@ ghost use Rattle.std.specs.Prelude.{◌≡◌, ◌<◌, ◌↔◌, IfOk, length}
 ghost use Rattle.std.specs.List.{Contains, AllByRecursion};
 ghost use Rattle.sg_base.specs.declared.scope.Scope.{Scope as ScopeOf};
 ghost use Rattle.sg_base.specs.List.{IsRising};
-ghost use Rattle.sg_expr.specs.declared.expr.Expr.{Expr as ExprOf};
+ghost use Rattle.sg_expr.specs.Tree.{ExprOf};
 ghost use Rattle.sg_state.specs.declared.need.Need.{Need as NeedOf};
 ghost use Rattle.sg_engine.specs.declared.work.Work.{Work as WorkOf};
 ghost use Rattle.sg_engine.specs.Need.{need_of};

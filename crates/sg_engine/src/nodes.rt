@@ -1,73 +1,45 @@
-ghost use Rattle.std.specs.Prelude.{false, ◌≡◌, ◌<◌, ◌≤◌, ◌^◌, [], ◌∷◌, ◌++◌, length, take, slice_index_or, IfSome, IfOk, OnOk, OnErr};
-ghost use Rattle.sg_engine.specs.Nodes.{NodeOf, RestOf, rest_at, IsRestAfter, IsPassed, StayPassed, EndElsewhere};
+ghost use Rattle.std.specs.Prelude.{false, ◌≡◌, ◌<◌, ◌^◌, [], ◌∷◌, ◌++◌, length, take, slice_index_or, IfOk, OnOk, OnErr};
+ghost use Rattle.std.specs.Arc.{arc_value};
+ghost use Rattle.sg_expr.specs.Positions.{first_of};
+ghost use Rattle.sg_engine.specs.Nodes.{NodeOf, IsRestAfter, IsPassed, StayPassed, EndElsewhere};
 
-use crate::rest::Rest;
 use sg_base::{Label, Scope, Step};
-use sg_expr::Expr;
+use sg_expr::Positions;
 use std::alloc::{AllocError, Global};
 use std::collections::HashSet;
 use std::marker::Model;
+use std::sync::Arc;
 
-/// A path as another path with one more step, by the place of that path's node, and the place of the words that may follow
-/// its word.
+/// A path as another path with one more step, by the place of that path's node, and the set of positions whose words may
+/// follow its word.
 #[derive(Clone, Copy, Debug)]
 pub struct Node {
     pub parent: usize,
     pub step: Step,
-    pub rest: usize,
+    pub set: u64,
 }
 
-/// Paths that share their fronts, each with the words that may follow its word. Words that follow the same words over the
-/// same label are kept once where they were derived lately. The first node stands for the path with no step, and its step
-/// ends at the start. The start is `passed`, and so is each scope once a path goes on from it; `last` was put there last.
+/// Paths that share their fronts, each with the words that may follow its word. The first node stands for the path with no
+/// step, and its step ends at the start. The start is `passed`, and so is each scope once a path goes on from it; `last` was
+/// put there last.
 #[derive(Drop)]
 pub struct Nodes {
-    rests: Vec<Rest>,
+    words: Arc<Positions, Global>,
     nodes: Vec<Node>,
     passed: HashSet<Scope>,
     last: Scope,
 }
 
 impl Model for Nodes {
-    ghost use Rattle.std.specs.Prelude.{◌<◌, length, map};
-    ghost use Rattle.std.specs.Coded.{codes};
-    ghost use Rattle.std.specs.List.{AllByRecursion};
-    ghost use Rattle.sg_expr.specs.contracts.expr.Expr as e;
-    ghost use Rattle.sg_engine.specs.Nodes.{NodesOf, AreRests, node_by, IsPassed, ParentsPass};
+    ghost use Rattle.std.specs.Prelude.{map};
+    ghost use Rattle.std.specs.Arc.{arc_value};
+    ghost use Rattle.sg_engine.specs.Nodes.{NodesOf, node_by, IsPassed, ParentsPass};
 
     ghost Value = { NodesOf };
 
-    ghost coded = { Prim.hlevel (codes, e.the_row.coded) };
+    ghost view = { λ n. record { words = arc_value n.words; items = map (node_by (arc_value n.words)) n.nodes.items } };
 
-    ghost view = { λ n. record { rests = n.rests.items; items = map (node_by n.rests.items) n.nodes.items } };
-
-    ghost invariant = { λ n. AreRests n.rests.items × AllByRecursion (λ m. m.rest < length n.rests.items) n.nodes.items × ParentsPass n.passed.keys (map (node_by n.rests.items) n.nodes.items) × IsPassed n.passed.keys n.last };
-}
-
-/// How many rests are looked at for the words that follow a label.
-const LATEST: usize = 32;
-
-/// The place of the first rest that is looked at, where there are so many.
-fn first_of(count: usize) -> usize
-    ensures { 1 ≤ result }
-{
-    if count > LATEST { count - LATEST } else { 1 }
-}
-
-/// The place of the words that came from a rest over a label, if they are among the latest of these. Looks at the latest
-/// 32 in turn, the last first.
-fn find(rests: &[Rest], from: usize, l: Label) -> Option<usize>
-    ensures { IfSome result (λ i. (0 < i) × (i < length rests.now) × ((r : RestOf) → r ≡ slice_index_or rests.now i r → (r.from ≡ from) × (r.label ≡ l))) }
-{
-    let low = first_of(rests.len());
-    let mut i = rests.len();
-    while low < i {
-        i -= 1;
-        if rests[i].comes_from(from, l) {
-            return Some(i);
-        }
-    }
-    None
+    ghost invariant = { λ n. ParentsPass n.passed.keys (map (node_by (arc_value n.words)) n.nodes.items) × IsPassed n.passed.keys n.last };
 }
 
 /// Puts a scope among those that are passed, unless it was put there last. After want of memory they are what they were.
@@ -85,23 +57,27 @@ fn pass(passed: &mut HashSet<Scope>, last: &mut Scope, from: Scope) -> Result<()
 }
 
 impl Nodes {
-    /// The path with no step, by a step that ends at the start, and the words that follow it.
-    pub fn root(alloc: Global, step: Step, rest: Rest) -> Result<Nodes, AllocError>
-        ensures { IfOk result (λ n. (n.rests ≡ rest ∷ []) × (n.items ≡ record { parent = 0; step = step; rest = rest.expr } ∷ [])) }
+    /// The path with no step, by a step that ends at the start, and the words that follow it: all words of the positions.
+    pub fn root(
+        alloc: Global,
+        step: Step,
+        words: Arc<Positions, Global>,
+    ) -> Result<Nodes, AllocError>
+        ensures words { IfOk result (λ n. n.words ≡ arc_value words) }
+        ensures items { IfOk result (λ n. n.items ≡ record { parent = 0; step = step; rest = record { words = arc_value words; set = first_of (arc_value words) } } ∷ []) }
     {
         let last = step.to;
-        let mut rests = Vec::new(alloc);
-        rests.push(rest)?;
+        let set = words.first();
         let mut nodes = Vec::new(alloc);
         nodes.push(Node {
             parent: 0,
             step,
-            rest: 0,
+            set,
         })?;
         let mut passed = HashSet::new(alloc);
         passed.insert(last)?;
         Ok(Nodes {
-            rests,
+            words,
             nodes,
             passed,
             last,
@@ -133,48 +109,38 @@ impl Nodes {
         self.nodes[place].step.to == t || self.passed.contains(&t)
     }
 
-    /// The words at a place.
-    pub fn rest(&self, place: usize) -> &Rest
-        requires { place < length self.now.rests }
-        ensures { result.now.expr ≡ rest_at self.now.rests place }
+    /// The positions of the words that are followed.
+    pub fn words(&self) -> &Positions
+        ensures { result.now ≡ self.now.words }
     {
-        &self.rests[place]
+        &self.words
     }
 
-    /// The place of the words that follow a path over a label. Takes them off the path's words, but for those that are
-    /// among the latest that were taken off.
-    pub fn derive(&mut self, alloc: Global, place: usize, l: Label) -> Result<usize, AllocError>
-        requires { place < length self.old.items }
-        ensures items { self.new.items ≡ self.old.items }
-        ensures rest { IfOk result (λ r. (r < length self.new.rests) × IsRestAfter self.new place l r) }
+    /// The set of positions whose words follow a path over a label, in the time of the path's own set.
+    pub fn set_after(&self, place: usize, l: Label) -> u64
+        requires { place < length self.now.items }
+        ensures { IsRestAfter self.now place l result }
     {
-        let from = self.nodes[place].rest;
-        if let Some(known) = find(&self.rests, from, l) {
-            return Ok(known);
-        }
-        let expr = self.rests[from].after(alloc, l)?;
-        let rest = self.rests.len();
-        self.rests.push(Rest::new(expr, from, l))?;
-        Ok(rest)
+        self.words.step(self.nodes[place].set, l)
     }
 
-    /// Adds a path with one more step, which these words follow. The scope that it goes on from is passed then.
-    pub fn push(&mut self, parent: usize, step: Step, rest: usize) -> Result<(), AllocError>
-        requires there { parent < length self.old.items }
-        requires rest { rest < length self.old.rests }
-        ensures rests { self.new.rests ≡ self.old.rests }
-        ensures ok { OnOk result (self.new.items ≡ self.old.items ++ record { parent = parent; step = step; rest = rest_at self.old.rests rest } ∷ []) }
+    /// Adds a path with one more step, which the words of this set follow. The scope that it goes on from is passed then.
+    pub fn push(&mut self, parent: usize, step: Step, set: u64) -> Result<(), AllocError>
+        requires { parent < length self.old.items }
+        ensures words { self.new.words ≡ self.old.words }
+        ensures ok { OnOk result (self.new.items ≡ self.old.items ++ record { parent = parent; step = step; rest = record { words = self.old.words; set = set } } ∷ []) }
         ensures err { OnErr result (self.new.items ≡ self.old.items) }
     {
         let from = self.nodes[parent].step.to;
         pass(&mut self.passed, &mut self.last, from)?;
-        self.nodes.push(Node { parent, step, rest })?;
+        self.nodes.push(Node { parent, step, set })?;
         Ok(())
     }
 
-    /// Takes back all paths but the first ones. Words that were derived and scopes that were passed stay.
+    /// Takes back all paths but the first ones. Scopes that were passed stay.
     pub fn truncate(&mut self, len: usize)
-        ensures { self.new.items ≡ take len self.old.items }
+        ensures words { self.new.words ≡ self.old.words }
+        ensures items { self.new.items ≡ take len self.old.items }
     {
         self.nodes.truncate(len);
     }

@@ -1,9 +1,11 @@
-ghost use Rattle.std.specs.Prelude.{◌≡◌, ◌+◌, None, IfOk, map};
+ghost use Rattle.std.specs.Prelude.{List, ◌≤◌, ◌≡◌, ◌+◌, None, IfOk, map};
 ghost use Rattle.sg_base.specs.List.{IsDistinct};
-ghost use Rattle.sg_expr.specs.declared.expr.Expr.{Expr as ExprOf};
+ghost use Rattle.sg_expr.specs.Tree.{ExprOf};
 ghost use Rattle.sg_order.specs.Order.{precedes};
+ghost use Rattle.sg_base.specs.declared.step.Step.{Step as StepOf};
 ghost use Rattle.sg_query.specs.Query.{Asked};
 ghost use Rattle.sg_state.specs.Held.{IsHeld, state_of};
+ghost use Rattle.sg_engine.specs.Keyed.{wanting_by};
 ghost use Rattle.sg_engine.specs.Run.{IsSearchIn, IsReply};
 ghost use Rattle.sg_engine.specs.Outcome.{IsOutcome};
 ghost use Rattle.sg_engine.specs.Tree.{front_of, IsTree, LeadsBack};
@@ -23,7 +25,7 @@ use std::alloc::{AllocError, Global};
 /// What an advance comes to: its answer, what blocks the search where it is blocked, and the query's answer where it is
 /// ready.
 #[derive(Drop)]
-pub struct Outcome<D> {
+pub struct Outcome<D: Drop> {
     pub progress: Progress,
     pub needs: Vec<Need>,
     pub answer: Option<Answer<D>>,
@@ -66,10 +68,11 @@ pub fn try_advance<I: Instance>(
     spent: &mut Option<Spent>,
 ) -> Result<Outcome<I::Datum>, AllocError>
     requires held { IsHeld h.now }
-    requires stands { (q : Asked I.Datum) × IsSearchIn (state_of h.now) (I.wants pred.now) q tree.old }
+    requires stands { (q : Asked I.Datum) × (ps : List (List StepOf)) × IsSearchIn h.now (wanting_by I.wants I.datum_key I.pred_key pred.now) ps q tree.old }
     requires anew { spent.old ≡ None }
-    ensures stands { (q : Asked I.Datum) → IsSearchIn (state_of h.now) (I.wants pred.now) q tree.old → IfOk result (λ o. IsSearchIn (state_of h.now) (I.wants pred.now) q tree.new × IsReply (state_of h.now) q (tree.old.explored + 64) tree.new o.progress) }
+    ensures stands { (q : Asked I.Datum) (ps : List (List StepOf)) → IsSearchIn h.now (wanting_by I.wants I.datum_key I.pred_key pred.now) ps q tree.old → IfOk result (λ o. IsSearchIn h.now (wanting_by I.wants I.datum_key I.pred_key pred.now) ps q tree.new × IsReply (state_of h.now) q (tree.old.explored + 64) tree.new o.progress) }
     ensures outcome { IfOk result (λ o. IsOutcome I.same_datum (precedes order.now) tree.new o.progress o.needs.items o.answer) }
+    ensures more { IfOk result (λ _. tree.old.explored ≤ tree.new.explored) }
     ensures back { LeadsBack tree.old tree.new spent.new }
 {
     let progress = go_on::<I>(alloc, tree, h, pred, spent)?;

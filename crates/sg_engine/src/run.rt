@@ -1,7 +1,9 @@
-ghost use Rattle.std.specs.Prelude.{◌≡◌, ◌+◌, None, IfOk, length};
+ghost use Rattle.std.specs.Prelude.{List, ◌≤◌, ◌≡◌, ◌+◌, None, IfOk, length};
+ghost use Rattle.sg_base.specs.declared.step.Step.{Step as StepOf};
 ghost use Rattle.sg_query.specs.Query.{Asked};
 ghost use Rattle.sg_state.specs.Held.{IsHeld, state_of};
 ghost use Rattle.sg_engine.specs.Tree.{ListsOn, LeadsBack};
+ghost use Rattle.sg_engine.specs.Keyed.{wanting_by};
 ghost use Rattle.sg_engine.specs.Run.{IsSearchIn, HasRun, IsReply};
 
 use crate::explore::{Stepped, explore_next};
@@ -35,9 +37,10 @@ fn run_on<I: Instance>(
     most: u32,
 ) -> Result<Run, AllocError>
     requires held { IsHeld h.now }
-    requires stands { (q : Asked I.Datum) × IsSearchIn (state_of h.now) (I.wants pred.now) q tree.old }
-    ensures stands { (q : Asked I.Datum) → IsSearchIn (state_of h.now) (I.wants pred.now) q tree.old → IfOk result (λ _. IsSearchIn (state_of h.now) (I.wants pred.now) q tree.new) }
+    requires stands { (q : Asked I.Datum) × (ps : List (List StepOf)) × IsSearchIn h.now (wanting_by I.wants I.datum_key I.pred_key pred.now) ps q tree.old }
+    ensures stands { (q : Asked I.Datum) (ps : List (List StepOf)) → IsSearchIn h.now (wanting_by I.wants I.datum_key I.pred_key pred.now) ps q tree.old → IfOk result (λ _. IsSearchIn h.now (wanting_by I.wants I.datum_key I.pred_key pred.now) ps q tree.new) }
     ensures ran { IfOk result (HasRun (state_of h.now) most tree.old tree.new) }
+    ensures more { IfOk result (λ _. tree.old.explored ≤ tree.new.explored) }
     ensures lists { ListsOn tree.old tree.new }
 {
     for n in 0..most {
@@ -64,9 +67,10 @@ fn look_again<I: Instance>(
     spent: &mut Option<Spent>,
 ) -> Result<Progress, AllocError>
     requires held { IsHeld h.now }
-    requires stands { (q : Asked I.Datum) × IsSearchIn (state_of h.now) (I.wants pred.now) q tree.old }
+    requires stands { (q : Asked I.Datum) × (ps : List (List StepOf)) × IsSearchIn h.now (wanting_by I.wants I.datum_key I.pred_key pred.now) ps q tree.old }
     requires over { tree.old.next ≡ length tree.old.queue.items }
-    ensures stands { (q : Asked I.Datum) → IsSearchIn (state_of h.now) (I.wants pred.now) q tree.old → IfOk result (λ p. IsSearchIn (state_of h.now) (I.wants pred.now) q tree.new × IsReply (state_of h.now) q (tree.old.explored + left) tree.new p) }
+    ensures stands { (q : Asked I.Datum) (ps : List (List StepOf)) → IsSearchIn h.now (wanting_by I.wants I.datum_key I.pred_key pred.now) ps q tree.old → IfOk result (λ p. IsSearchIn h.now (wanting_by I.wants I.datum_key I.pred_key pred.now) ps q tree.new × IsReply (state_of h.now) q (tree.old.explored + left) tree.new p) }
+    ensures more { IfOk result (λ _. tree.old.explored ≤ tree.new.explored) }
     ensures back { LeadsBack tree.old tree.new spent.new }
 {
     let waiting = mem::replace(&mut tree.blocked, Vec::new(alloc));
@@ -96,9 +100,10 @@ pub fn go_on<I: Instance>(
     spent: &mut Option<Spent>,
 ) -> Result<Progress, AllocError>
     requires held { IsHeld h.now }
-    requires stands { (q : Asked I.Datum) × IsSearchIn (state_of h.now) (I.wants pred.now) q tree.old }
+    requires stands { (q : Asked I.Datum) × (ps : List (List StepOf)) × IsSearchIn h.now (wanting_by I.wants I.datum_key I.pred_key pred.now) ps q tree.old }
     requires anew { spent.old ≡ None }
-    ensures stands { (q : Asked I.Datum) → IsSearchIn (state_of h.now) (I.wants pred.now) q tree.old → IfOk result (λ p. IsSearchIn (state_of h.now) (I.wants pred.now) q tree.new × IsReply (state_of h.now) q (tree.old.explored + 64) tree.new p) }
+    ensures stands { (q : Asked I.Datum) (ps : List (List StepOf)) → IsSearchIn h.now (wanting_by I.wants I.datum_key I.pred_key pred.now) ps q tree.old → IfOk result (λ p. IsSearchIn h.now (wanting_by I.wants I.datum_key I.pred_key pred.now) ps q tree.new × IsReply (state_of h.now) q (tree.old.explored + 64) tree.new p) }
+    ensures more { IfOk result (λ _. tree.old.explored ≤ tree.new.explored) }
     ensures back { LeadsBack tree.old tree.new spent.new }
 {
     match run_on::<I>(alloc, tree, h, pred, MOST_ITEMS)? {

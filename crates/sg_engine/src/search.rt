@@ -1,30 +1,34 @@
-ghost use Rattle.std.specs.Prelude.{◌≡◌, ◌<◌, [], Some, None, IsSome, IfOk, OnErr, length};
+ghost use Rattle.std.specs.Prelude.{◌≡◌, ◌≤◌, ◌<◌, [], Some, None, IsSome, IfOk, OnErr, length};
 ghost use Rattle.sg_base.specs.Graph.{HasScope};
 ghost use Rattle.sg_base.specs.State.{State};
 ghost use Rattle.sg_query.specs.Query.{asked};
-ghost use Rattle.sg_state.specs.Held.{state_of};
+ghost use Rattle.sg_base.specs.List.{MoreThan};
+ghost use Rattle.sg_state.specs.Held.{HeldOf, state_of};
 ghost use Rattle.sg_engine.specs.Front.{Stands};
+ghost use Rattle.sg_engine.specs.Keyed.{IsKeyedItem, PassesOver, wanting_by};
 ghost use Rattle.sg_engine.specs.Search.{IsOfTable, IsProgress};
 
 use crate::outcome::try_advance;
 use crate::progress::Progress;
 use crate::tree::Tree;
 use sg_base::Instance;
+use sg_expr::Expr;
 use sg_query::{Answer, KindTable, Query};
 use sg_state::{Held, Need};
 use std::alloc::{AllocError, Global};
 use std::marker::Model;
+use std::snapshot::Snapshot;
 
 /// A search for the answer of a query in a held graph, which keeps what it has explored from one advance to the next.
 ///
-/// The paths that it found share their fronts. An item costs a look-up and what it adds: a node for each new path, and a
-/// look-up for each target, with a walk up the path where some path went on from the target. The expression of the words
-/// that may follow is taken off behind the same words over the same label only where it is not among the latest 32 that
-/// were taken off. After want of memory the search is what it was.
+/// The paths that it found share their fronts, and each has the set of positions at which its words may go on. An item costs
+/// a look-up and what it adds: a node for each new path, and a look-up for each target, with a walk up the path where some
+/// path went on from the target. After want of memory the search is what it was.
 #[derive(Drop)]
 pub struct Search<I: Instance> {
     alloc: Global,
     query: Query<I::Pred>,
+    expr: Snapshot<Expr>,
     tree: Tree<I::Datum>,
     needs: Vec<Need>,
     answer: Option<Answer<I::Datum>>,
@@ -32,19 +36,19 @@ pub struct Search<I: Instance> {
 
 impl<I: Instance> Model for Search<I> {
     ghost use Rattle.std.specs.Prelude.{◌≡◌};
-    ghost use Rattle.sg_engine.specs.Search.{SearchOf};
-    ghost use Rattle.sg_expr.specs.contracts.expr.Expr as e;
     ghost use Rattle.std.specs.Coded.{codes};
+    ghost use Rattle.sg_expr.specs.Code.{coded_expr};
+    ghost use Rattle.sg_expr.specs.Tree.{expr_of};
+    ghost use Rattle.sg_engine.specs.Search.{SearchOf};
+    ghost use Rattle.sg_engine.specs.Tree.{front_of, IsTree};
 
     ghost Value = { SearchOf I.Pred I.Datum };
 
-    ghost coded = { Prim.hlevel (codes, e.the_row.coded) };
+    ghost coded = { Prim.hlevel (codes, coded_expr) };
 
-    ghost use Rattle.sg_engine.specs.Tree.{expr_of, front_of, IsTree};
+    ghost view = { λ s. record { query = s.query; expr = expr_of s.expr.value; front = front_of s.tree; needs = s.needs.items; answer = s.answer } };
 
-    ghost view = { λ s. record { query = s.query; expr = expr_of s.tree.nodes.items; front = front_of s.tree; needs = s.needs.items; answer = s.answer } };
-
-    ghost invariant = { λ s. IsTree (expr_of s.tree.nodes.items) s.tree × (s.query.start ≡ s.tree.start) };
+    ghost invariant = { λ s. IsTree (expr_of s.expr.value) s.tree × (s.query.start ≡ s.tree.start) };
 }
 
 impl<I: Instance> Search<I> {
@@ -54,13 +58,16 @@ impl<I: Instance> Search<I> {
         ensures query { IfOk result (λ s. s.query ≡ q) }
         ensures table { IfOk result (IsOfTable t.now) }
         ensures stands { (h : State I.Datum) → IfOk result (λ s. Stands h (asked I.wants I.same_datum t.now q) s.front) }
+        ensures keyed { (h : HeldOf I.Datum) → IfOk result (λ s. PassesOver h (wanting_by I.wants I.datum_key I.pred_key q.pred) (asked I.wants I.same_datum t.now q) s.front.paths) }
         ensures none { IfOk result (λ s. (s.front.explored ≡ 0) × (s.needs ≡ []) × (s.answer ≡ None)) }
     {
-        let expr = t.kind(q.kind).expr.copy(alloc)?;
-        let tree = Tree::root(alloc, q.start, expr)?;
+        let kind = t.kind(q.kind);
+        let words = t.share_positions(q.kind)?;
+        let tree = Tree::root(alloc, q.start, words)?;
         Ok(Search {
             alloc,
             query: q,
+            expr: Snapshot::of(&kind.expr),
             tree,
             needs: Vec::new(alloc),
             answer: None,
@@ -72,7 +79,10 @@ impl<I: Instance> Search<I> {
     /// Ready where no item is left, or more than 4,096 paths that go on were found: the answer is then built. Otherwise
     /// Moved where 64 items were explored and one is left that is not blocked, and Blocked where each item left is. Where
     /// an earlier advance succeeded, the held graph is what writes made of the one of that advance, and the search still
-    /// stands there (`laws::stands_later`).
+    /// stands there (`laws::stands_later`, `laws::passes_over_later`).
+    ///
+    /// Where the predicate has a key and no word goes on behind a label, only the targets under that key and those without a
+    /// key are looked at, so that a name in a row of many costs one look-up.
     ///
     /// Costs what each explored item costs, a look-up for each item that is found to be blocked, for Blocked the sorting of
     /// the needs, and for Ready a comparison of each two found paths.
@@ -84,6 +94,9 @@ impl<I: Instance> Search<I> {
         ensures table { IsOfTable t.now self.new }
         ensures stands { Stands (state_of h.now) (asked I.wants I.same_datum t.now self.old.query) self.new.front }
         ensures progress { IfOk result (IsProgress (state_of h.now) (asked I.wants I.same_datum t.now self.old.query) self.old self.new) }
+        ensures keyed { PassesOver h.now (wanting_by I.wants I.datum_key I.pred_key self.old.query.pred) (asked I.wants I.same_datum t.now self.old.query) self.old.front.paths → PassesOver h.now (wanting_by I.wants I.datum_key I.pred_key self.old.query.pred) (asked I.wants I.same_datum t.now self.old.query) self.new.front.paths }
+        ensures fewer { PassesOver h.now (wanting_by I.wants I.datum_key I.pred_key self.old.query.pred) (asked I.wants I.same_datum t.now self.old.query) self.old.front.paths → IfOk result (λ p. p ≡ Progress.Moved → MoreThan self.new.front.explored (IsKeyedItem h.now (wanting_by I.wants I.datum_key I.pred_key self.old.query.pred) (asked I.wants I.same_datum t.now self.old.query))) }
+        ensures more { self.old.front.explored ≤ self.new.front.explored }
         ensures err { OnErr result (self.new ≡ self.old) }
     {
         let _holder = h.datum_holder(self.query.start);

@@ -92,6 +92,8 @@ impl Instance for Counted {
     } };
 
     ghost keyed = { λ p d k e t. absurd (cc) };
+
+    ghost one_key = { λ a b h. Prim.grind (arith, nat_tests) };
 }
 
 /// The first unit that holds a row.
@@ -186,7 +188,7 @@ fn table_of(alloc: Global, expr: Expr) -> Result<Option<KindTable>, AllocError> 
     }
     let mut kinds = Vec::new(alloc);
     kinds.push(Kind { expr, order })?;
-    Ok(Some(KindTable::new(kinds)))
+    Ok(Some(KindTable::new(alloc, kinds)?))
 }
 
 /// Advances a search while it moves, up to 100 times: how often it moved, and what it answered then.

@@ -1,23 +1,25 @@
-ghost use Rattle.std.specs.Prelude.{◌≡◌, ◌+◌, ◌≤◌, ◌<◌, [], ◌∷◌, ◌++◌, List, ◌↔◌, IfOk, OnOk, length};
+ghost use Rattle.std.specs.Prelude.{ℕ, ◌≡◌, ◌+◌, ◌≤◌, ◌<◌, [], ◌∷◌, ◌++◌, List, ◌↔◌, IfOk, OnOk, length};
+ghost use Rattle.std.specs.Arc.{arc_value};
 ghost use Rattle.std.specs.List.{Contains};
-ghost use Rattle.sg_base.specs.Label.{Word};
+ghost use Rattle.sg_base.specs.Label.{Has, Word};
 ghost use Rattle.sg_base.specs.List.{IsDistinct};
-ghost use Rattle.sg_expr.specs.declared.expr.Expr.{Expr as ExprOf};
+ghost use Rattle.sg_expr.specs.Positions.{Accepts, first_of};
+ghost use Rattle.sg_expr.specs.Tree.{ExprOf};
 ghost use Rattle.sg_expr.specs.Word.{In};
 ghost use Rattle.sg_query.specs.Steps.{is_fresh};
 ghost use Rattle.sg_engine.specs.declared.work.Work.{Work as WorkOf};
 ghost use Rattle.sg_engine.specs.Front.{step_to};
 ghost use Rattle.sg_engine.specs.Growth.{Gains, into_targets, no_front};
 ghost use Rattle.sg_engine.specs.Nodes.{IsRestAfter};
-ghost use Rattle.sg_engine.specs.Tree.{path_at, paths_of, expr_of, IsWorkOf, front_of, IsTree, IsFrontOf, ListsOn};
+ghost use Rattle.sg_engine.specs.Tree.{path_at, paths_of, IsWorkOf, front_of, IsTree, IsFrontOf, ListsOn};
 
 use crate::found_at::FoundAt;
 use crate::nodes::Nodes;
-use crate::rest::Rest;
 use crate::work::Work;
-use sg_base::{Label, Scope, Step};
-use sg_expr::Expr;
+use sg_base::{Label, LabelSet, Scope, Step};
+use sg_expr::Positions;
 use std::alloc::{AllocError, Global};
+use std::sync::Arc;
 
 /// The paths that a search found, and what it has left: the work that was put aside, and the queue from `next` on.
 #[derive(Drop)]
@@ -32,13 +34,29 @@ pub struct Tree<D> {
     pub going: usize,
 }
 
+/// The first labels of the words of a set, which are looked for only where the words go on.
+fn heads_of(words: &Positions, set: u64) -> LabelSet
+    ensures { (l : ℕ) → (Has result l) ↔ ((w : Word) × Accepts words.now set (l ∷ w)) }
+{
+    if words.goes_on(set) {
+        words.heads(set)
+    } else {
+        LabelSet::none()
+    }
+}
+
 /// Adds what the path of a node offers. Looks at the labels only where the words go on.
-fn push_offers(rest: &Rest, place: usize, queue: &mut Vec<Work>) -> Result<(), AllocError>
-    ensures offers { OnOk result ((ws : List WorkOf) × (queue.new.items ≡ queue.old.items ++ ws) × IsDistinct ws × (length ws ≤ 17) × ((x : WorkOf) → (Contains ws x) ↔ (IsWorkOf rest.now.expr place x))) }
+fn push_offers(
+    words: &Positions,
+    set: u64,
+    place: usize,
+    queue: &mut Vec<Work>,
+) -> Result<(), AllocError>
+    ensures offers { OnOk result ((ws : List WorkOf) × (queue.new.items ≡ queue.old.items ++ ws) × IsDistinct ws × (length ws ≤ 17) × ((x : WorkOf) → (Contains ws x) ↔ (IsWorkOf (record { words = words.now; set = set }) place x))) }
     ensures lists { IsFrontOf queue.old.items queue.new.items }
 {
-    let heads = rest.heads();
-    if rest.goes_on() {
+    let heads = heads_of(words, set);
+    if words.goes_on(set) {
         for n in 0..16 {
             let l = Label::new(n);
             if heads.has(l) {
@@ -46,25 +64,28 @@ fn push_offers(rest: &Rest, place: usize, queue: &mut Vec<Work>) -> Result<(), A
             }
         }
     }
-    if rest.nullable() {
+    if words.ends(set) {
         queue.push(Work::Whole(place))?;
     }
     Ok(())
 }
 
 impl<D> Tree<D> {
-    /// The tree of the path with no step, which these words follow.
-    pub fn root(alloc: Global, start: Scope, rest: Expr) -> Result<Tree<D>, AllocError>
+    /// The tree of the path with no step, which all words of the positions follow.
+    pub fn root(
+        alloc: Global,
+        start: Scope,
+        words: Arc<Positions, Global>,
+    ) -> Result<Tree<D>, AllocError>
         ensures start { IfOk result (λ t. t.start ≡ start) }
-        ensures expr { IfOk result (λ t. expr_of t.nodes.items ≡ rest) }
-        ensures tree { (e : ExprOf) → ((w : Word) → (In rest w) ↔ (In e w)) → IfOk result (λ t. IsTree e t × Gains e no_front (front_of t) ([] ∷ [])) }
+        ensures tree { (e : ExprOf) → ((w : Word) → (Accepts (arc_value words) (first_of (arc_value words)) w) ↔ (In e w)) → IfOk result (λ t. IsTree e t × Gains e no_front (front_of t) ([] ∷ [])) }
     {
         let label = Label::new(0);
-        let rest = Rest::new(rest, 0, label);
+        let set = words.first();
         let mut queue = Vec::new(alloc);
-        push_offers(&rest, 0, &mut queue)?;
-        let going = if rest.goes_on() { 1 } else { 0 };
-        let nodes = Nodes::root(alloc, Step { label, to: start }, rest)?;
+        push_offers(&words, set, 0, &mut queue)?;
+        let going = if words.goes_on(set) { 1 } else { 0 };
+        let nodes = Nodes::root(alloc, Step { label, to: start }, words)?;
         Ok(Tree {
             start,
             nodes,
@@ -77,32 +98,31 @@ impl<D> Tree<D> {
         })
     }
 
-    /// Adds a path with one more step, which these words follow, and what it offers.
+    /// Adds a path with one more step, which the words of this set follow, and what it offers.
     pub fn push_node(
         &mut self,
         parent: usize,
         l: Label,
         to: Scope,
-        rest: usize,
+        set: u64,
     ) -> Result<(), AllocError>
         requires there { parent < length self.old.nodes.items }
         requires few { self.old.going ≤ length self.old.nodes.items }
-        requires rest { rest < length self.old.nodes.rests }
-        requires after { IsRestAfter self.old.nodes parent l rest }
+        requires after { IsRestAfter self.old.nodes parent l set }
         ensures tree { (e : ExprOf) → IsTree e self.old → OnOk result (IsTree e self.new × Gains e (front_of self.old) (front_of self.new) ((path_at (paths_of self.old.nodes.items) parent ++ step_to l to ∷ []) ∷ [])) }
         ensures next { self.new.next ≡ self.old.next }
         ensures explored { self.new.explored ≡ self.old.explored }
         ensures blocked { self.new.blocked ≡ self.old.blocked }
-        ensures rests { self.new.nodes.rests ≡ self.old.nodes.rests }
+        ensures words { self.new.nodes.words ≡ self.old.nodes.words }
         ensures lists { ListsOn self.old self.new }
         ensures more { OnOk result ((length self.old.nodes.items < length self.new.nodes.items) × (self.new.going ≤ length self.new.nodes.items)) }
     {
-        let words = self.nodes.rest(rest);
-        push_offers(words, self.nodes.len(), &mut self.queue)?;
-        if words.goes_on() {
+        let words = self.nodes.words();
+        push_offers(words, set, self.nodes.len(), &mut self.queue)?;
+        if words.goes_on(set) {
             self.going += 1;
         }
-        self.nodes.push(parent, Step { label: l, to }, rest)?;
+        self.nodes.push(parent, Step { label: l, to }, set)?;
         Ok(())
     }
 
@@ -127,50 +147,29 @@ impl<D> Tree<D> {
         t != self.start
     }
 
-    /// Adds the paths of a node with one more step to scopes, which these words follow.
-    fn push_targets(
+    /// Adds the paths of a node with one more step to scopes, which the words of this set follow.
+    pub fn push_targets(
         &mut self,
         row: &[Scope],
         place: usize,
         l: Label,
-        rest: usize,
+        set: u64,
     ) -> Result<(), AllocError>
         requires tree { (e : ExprOf) × IsTree e self.old }
         requires there { place < length self.old.nodes.items }
-        requires rest { rest < length self.old.nodes.rests }
-        requires after { IsRestAfter self.old.nodes place l rest }
+        requires after { IsRestAfter self.old.nodes place l set }
         ensures tree { (e : ExprOf) → IsTree e self.old → OnOk result (IsTree e self.new × Gains e (front_of self.old) (front_of self.new) (into_targets self.old.start (path_at (paths_of self.old.nodes.items) place) l row.now)) }
         ensures next { self.new.next ≡ self.old.next }
         ensures explored { self.new.explored ≡ self.old.explored }
         ensures blocked { self.new.blocked ≡ self.old.blocked }
+        ensures words { self.new.nodes.words ≡ self.old.nodes.words }
         ensures lists { ListsOn self.old self.new }
     {
         for t in row {
             if self.is_fresh_at(place, *t) {
-                self.push_node(place, l, *t, rest)?;
+                self.push_node(place, l, *t, set)?;
             }
         }
-        Ok(())
-    }
-
-    /// Adds the paths of a node with one more step into a row. The words that follow are found once for them all.
-    pub fn push_row(
-        &mut self,
-        alloc: Global,
-        row: &[Scope],
-        place: usize,
-        l: Label,
-    ) -> Result<(), AllocError>
-        requires tree { (e : ExprOf) × IsTree e self.old }
-        requires there { place < length self.old.nodes.items }
-        ensures tree { (e : ExprOf) → IsTree e self.old → OnOk result (IsTree e self.new × Gains e (front_of self.old) (front_of self.new) (into_targets self.old.start (path_at (paths_of self.old.nodes.items) place) l row.now)) }
-        ensures next { self.new.next ≡ self.old.next }
-        ensures explored { self.new.explored ≡ self.old.explored }
-        ensures blocked { self.new.blocked ≡ self.old.blocked }
-        ensures lists { ListsOn self.old self.new }
-    {
-        let rest = self.nodes.derive(alloc, place, l)?;
-        self.push_targets(row, place, l, rest)?;
         Ok(())
     }
 }

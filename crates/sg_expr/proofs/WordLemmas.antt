@@ -3,7 +3,8 @@ use Rattle.std.proofs.Common.{◌≡◌, ◌≢◌, ℕ, List, [], ◌∷◌, �
 use Rattle.std.proofs.lemmas.List.{append-nil}
 use Rattle.std.specs.List.{concat}
 use Rattle.sg_base.specs.Label.{Word}
-use Rattle.sg_expr.specs.Word.{EachWord, Splits, Chain}
+use Rattle.sg_expr.specs.Tree.{ExprOf}
+use Rattle.sg_expr.specs.Word.{EachWord, Splits, Chain, In}
 
 nil_at : (A B : Word → Type 0) (u v : Word) → [] ≡ u ++ v → A u → B v → A [] × B []
 nil_at A B [] [] e a b = (a, b)
@@ -68,7 +69,7 @@ goes_at A B (x ∷ u) v n a b = inl ((x ∷ u, (λ e. cc), a), (v, b))
 pub GoesOn-Splits : (A B : Word → Type 0) → GoesOn (Splits A B) → (GoesOn A × ((w : Word) × B w)) ⊎ (((w : Word) × A w) × GoesOn B)
 GoesOn-Splits A B g = goes_at A B (g.2).0 (g.2).1 (λ e. g.1 ((g.2).2 ∙ e)) (g.2).3 (g.2).4
 
-left_not_nil : (u v : Word) → u ≢ [] → u ++ v ≢ []
+pub left_not_nil : (u v : Word) → u ≢ [] → u ++ v ≢ []
 left_not_nil [] v n e = n refl
 left_not_nil (x ∷ u) v n e = cc
 
@@ -92,3 +93,6 @@ GoesOn-Chain A g = chain_goes_at A (g.2).0 (λ e. g.1 ((g.2).1 ∙ e)) (g.2).2
 
 pub once-Chain : (A : Word → Type 0) (w : Word) → A w → Chain A w
 once-Chain A w a = (w ∷ [], sym (append-nil w), (a, tt))
+
+pub In-along : (a b : ExprOf) → a ≡ b → (w : Word) → In a w → In b w
+In-along a b e w i = subst (λ (x : ExprOf). In x w) e i

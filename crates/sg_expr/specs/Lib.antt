@@ -1,1 +1,5 @@
+pub mod Code
+pub mod Laying
+pub mod Positions
+pub mod Tree
 pub mod Word

@@ -1,6 +1,7 @@
-ghost use Rattle.std.specs.Prelude.{◌≢◌, ℕ, ◌-◌, ◌≤◌, [], ◌∷◌, ◌↔◌, IsTrue, IfOk};
+ghost use Rattle.std.specs.Prelude.{◌≡◌, ◌≢◌, ℕ, ◌-◌, ◌≤◌, [], ◌∷◌, ◌↔◌, IsTrue, IfOk};
 ghost use Rattle.std.specs.Option.{SomeIff};
 ghost use Rattle.sg_base.specs.Label.{Has, Word};
+ghost use Rattle.sg_expr.specs.Tree.{expr_of};
 ghost use Rattle.sg_expr.specs.Word.{In, ones_of};
 
 use crate::build::{alt, seq, star};
@@ -18,10 +19,15 @@ pub enum Expr {
     Star(Box<Expr>),
 }
 
+// An expression owns its parts alone, so it may move to another thread and be shared by several.
+unsafe impl Send for Expr {}
+
+unsafe impl Sync for Expr {}
+
 impl Expr {
     /// Whether the empty word belongs, in the time of the expression's size.
     pub fn nullable(&self) -> bool
-        ensures { IsTrue result ↔ In self.now [] }
+        ensures { IsTrue result ↔ In (expr_of self.now) [] }
     {
         match self {
             Expr::Nothing => false,
@@ -35,7 +41,7 @@ impl Expr {
 
     /// Whether some word belongs, in the time of the expression's size.
     pub fn live(&self) -> bool
-        ensures { IsTrue result ↔ ((w : Word) × In self.now w) }
+        ensures { IsTrue result ↔ ((w : Word) × In (expr_of self.now) w) }
     {
         match self {
             Expr::Nothing => false,
@@ -49,7 +55,7 @@ impl Expr {
 
     /// Whether some word that is not empty belongs, in the time of the expression's size times its depth.
     pub fn goes_on(&self) -> bool
-        ensures { IsTrue result ↔ ((w : Word) × (w ≢ []) × In self.now w) }
+        ensures { IsTrue result ↔ ((w : Word) × (w ≢ []) × In (expr_of self.now) w) }
     {
         match self {
             Expr::Nothing => false,
@@ -65,7 +71,7 @@ impl Expr {
 
     /// The first labels of the words that belong, in the time of the expression's size times its depth.
     pub fn heads(&self) -> LabelSet
-        ensures { (l : ℕ) → (Has result l) ↔ ((w : Word) × In self.now (l ∷ w)) }
+        ensures { (l : ℕ) → (Has result l) ↔ ((w : Word) × In (expr_of self.now) (l ∷ w)) }
     {
         match self {
             Expr::Nothing => LabelSet::none(),
@@ -89,14 +95,14 @@ impl Expr {
     /// Whether at most `n` labels stand in the expression, each counted as often as it stands there, in the time of
     /// the expression's size.
     pub fn names_at_most(&self, n: usize) -> bool
-        ensures { IsTrue result ↔ (ones_of self.now ≤ n) }
+        ensures { IsTrue result ↔ (ones_of (expr_of self.now) ≤ n) }
     {
         self.left_of(n).is_some()
     }
 
     /// How many of `n` labels are left where each label of the expression takes one.
     fn left_of(&self, n: usize) -> Option<usize>
-        ensures { SomeIff result (ones_of self.now ≤ n) (n - ones_of self.now) }
+        ensures { SomeIff result (ones_of (expr_of self.now) ≤ n) (n - ones_of (expr_of self.now)) }
     {
         match self {
             Expr::Nothing | Expr::Empty => Some(n),
@@ -108,34 +114,34 @@ impl Expr {
         }
     }
 
-    /// An expression of the same words, which is no larger.
+    /// A copy, in the time and memory of the expression's size.
     pub fn copy(&self, alloc: Global) -> Result<Expr, AllocError>
-        ensures { IfOk result (λ r. (w : Word) → (In r w) ↔ (In self.now w)) }
+        ensures { IfOk result (λ r. expr_of r ≡ expr_of self.now) }
     {
         match self {
             Expr::Nothing => Ok(Expr::Nothing),
             Expr::Empty => Ok(Expr::Empty),
             Expr::One(l) => Ok(Expr::One(*l)),
             Expr::Seq(first, second) => {
-                let first = first.copy(alloc)?;
-                let second = second.copy(alloc)?;
-                seq(alloc, first, second)
+                let first = Box::new(alloc, first.copy(alloc)?)?;
+                let second = Box::new(alloc, second.copy(alloc)?)?;
+                Ok(Expr::Seq(first, second))
             }
             Expr::Alt(left, right) => {
-                let left = left.copy(alloc)?;
-                let right = right.copy(alloc)?;
-                alt(alloc, left, right)
+                let left = Box::new(alloc, left.copy(alloc)?)?;
+                let right = Box::new(alloc, right.copy(alloc)?)?;
+                Ok(Expr::Alt(left, right))
             }
             Expr::Star(inner) => {
-                let inner = inner.copy(alloc)?;
-                star(alloc, inner)
+                let inner = Box::new(alloc, inner.copy(alloc)?)?;
+                Ok(Expr::Star(inner))
             }
         }
     }
 
     /// The words `w` such that `l` followed by `w` belongs.
     pub fn after(&self, alloc: Global, l: Label) -> Result<Expr, AllocError>
-        ensures { IfOk result (λ r. (w : Word) → (In r w) ↔ (In self.now (l ∷ w))) }
+        ensures { IfOk result (λ r. (w : Word) → (In (expr_of r) w) ↔ (In (expr_of self.now) (l ∷ w))) }
     {
         match self {
             Expr::Nothing => Ok(Expr::Nothing),

@@ -8,17 +8,11 @@ use Rattle.std.proofs.lemmas.List.{get_or-replicate}
 use Rattle.std.specs.Int.{bit_at}
 use Rattle.sg_base.specs.declared.mark.Mark.{Mark}
 use Rattle.sg_base.specs.declared.mark.Mark.TheVariants.{End, Of}
+use Rattle.sg_base.proofs.Finite.{nothing_in, single}
 use Rattle.sg_order.proofs.RowLemmas.{no_row_past}
 use Rattle.sg_order.specs.Mark.{Precedes, given, through}
 use Rattle.sg_order.specs.Mark.{mark_number}
 use Rattle.sg_order.specs.Order.{RowHas}
-
-only_one : {X : Type 0} (x y : X) (k : ℕ) → k < 1 → slice_index_or (x ∷ []) k y ≡ y → y ≡ x
-only_one x y zero l e = sym e
-only_one x y (suc k) l e = absurd (omega arith)
-
-nothing_in : {X : Type 0} (x : X) → Contains [] x → ⊥
-nothing_in x c = absurd (omega (arith, c.1))
 
 pub Precedes-nil : (a b : Mark) → Precedes [] a b → ⊥
 Precedes-nil a b (given c) = nothing_in _ c
@@ -43,7 +37,7 @@ module _ (ps : List (Mark × Mark)) where
         elim (Contains-append_cases ps ((x, y) ∷ []) (a, b) c) [
           | inl k ↦ inl k
           | inr k ↦
-              let e : ◌≡◌ {A = Mark × Mark} (a, b) (x, y) = only_one (x, y) (a, b) k.0 k.1 k.2 in
+              let e : ◌≡◌ {A = Mark × Mark} (a, b) (x, y) = single (x, y) (a, b) k in
               inr (ap (λ (p : Mark × Mark). p.0) e, ap (λ (p : Mark × Mark). p.1) e)
         ]
 

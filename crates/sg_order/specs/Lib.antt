@@ -1,3 +1,4 @@
+pub mod Law
 pub mod Mark
 pub mod Order
 pub mod Path

@@ -4,6 +4,7 @@
 //! the more specific (Neron et al., "A Theory of Name Resolution", ESOP 2015).
 #![tactic(auto)]
 
+pub mod laws;
 mod not_strict;
 mod order;
 mod relation;

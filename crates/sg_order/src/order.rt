@@ -1,6 +1,7 @@
 ghost use Rattle.std.specs.Prelude.{◌≡◌, ◌↔◌, IsTrue, MatchResult};
+ghost use Rattle.sg_base.specs.declared.mark.Mark.{Mark as MarkOf};
 ghost use Rattle.sg_order.specs.Mark.{IsLeastLoop};
-ghost use Rattle.sg_order.specs.Order.{precedes, IsOrderOf};
+ghost use Rattle.sg_order.specs.Order.{precedes, IsOrderOf, IsStrict};
 ghost use Rattle.sg_order.specs.Path.{IsPathBefore};
 
 use crate::not_strict::NotStrict;
@@ -8,7 +9,7 @@ use crate::relation::{MARKS, closure, mark_at, number_of};
 use sg_base::{Mark, Path, Step};
 use std::marker::Model;
 
-/// A strict order of marks.
+/// A strict order of marks: no mark comes before itself, and what comes before a mark comes before all behind it.
 #[derive(Debug, Drop)]
 pub struct Order {
     rows: [u32; MARKS],
@@ -16,14 +17,18 @@ pub struct Order {
 
 impl Model for Order {
     ghost use Rattle.std.specs.Prelude.{List, ℕ};
+    ghost use Rattle.sg_order.specs.Order.{IsStrict, precedes};
 
     ghost Value = { List ℕ };
 
     ghost view = { λ o. o.rows };
+
+    ghost invariant = { λ o. IsStrict (precedes o.rows) };
 }
 
 impl Order {
-    /// The transitive closure of the pairs, in the time of 17 steps for each pair. Takes no memory.
+    /// The transitive closure of the pairs, in the time of 17 steps for each pair. Takes no memory. Pairs that rise in
+    /// some rank of marks are always an order (`laws::rising_pairs_are_strict`).
     pub fn new(pairs: &[(Mark, Mark)]) -> Result<Order, NotStrict>
         ensures { MatchResult result (λ o. IsOrderOf pairs.now o) (λ e. IsLeastLoop pairs.now e.mark) }
     {
@@ -38,9 +43,22 @@ impl Order {
 
     /// Whether the first mark comes before the second.
     pub fn before(&self, a: Mark, b: Mark) -> bool
-        ensures { result ≡ precedes self.now a b }
+        ensures answer { result ≡ precedes self.now a b }
+        ensures strict { IsStrict (precedes self.now) }
     {
         (self.rows[number_of(a)] >> number_of(b)) & 1 == 1
+    }
+
+    /// Whether no mark comes before another, by a look at 17 rows.
+    pub fn is_empty(&self) -> bool
+        ensures { IsTrue result ↔ ((a b : MarkOf) → IsTrue (precedes self.now a b) → ⊥) }
+    {
+        for i in 0..MARKS {
+            if self.rows[i] != 0 {
+                return false;
+            }
+        }
+        true
     }
 
     /// Whether the first path comes before the second: after their longest common prefix, its mark does. Two targets

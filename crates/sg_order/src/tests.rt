@@ -43,6 +43,8 @@ fn an_order_is_closed_and_strict(rt: HostRuntime) -> Result<(), Fail> {
     assert_eq!(rt; Order::new(&loop_of_two).err().map(|e| e.mark), Some(of(0)));
     let chain = [(of(1), of(2)), (Mark::End, of(1))];
     let order = Order::new(&chain).ok().ok_or("not strict")?;
+    let none = Order::new(&[]).ok().ok_or("not strict")?;
+    assert!(rt; none.is_empty() && !order.is_empty());
     assert!(rt; order.before(Mark::End, of(2)) && order.before(of(1), of(2)));
     assert!(rt; !order.before(of(2), Mark::End) && !order.before(of(0), of(1)));
     Ok(())

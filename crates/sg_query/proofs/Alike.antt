@@ -9,7 +9,7 @@ use Rattle.sg_base.specs.List.{IsDistinct, MoreThan}
 use Rattle.sg_base.specs.Path.{end_of, word_of, reached_by}
 use Rattle.sg_base.specs.State.{State, IsOpen, IsUnset, Extends, Follows, PassesClosed, IsClosedPath}
 use Rattle.sg_base.proofs.Finite.{nothing_in, Distinct-left, MoreThan-map}
-use Rattle.sg_expr.specs.declared.expr.Expr.{Expr}
+use Rattle.sg_expr.specs.Tree.{ExprOf}
 use Rattle.sg_expr.specs.Word.{In, IsViable, IsContinuable}
 use Rattle.sg_query.specs.declared.answer.Answer.{Answer}
 use Rattle.sg_query.specs.declared.answer.Answer.TheVariants.{Paths, TooMany}
@@ -21,21 +21,21 @@ use Rattle.sg_query.proofs.Paths.{word_of-append, end_of-append, front_distinct,
 
 -- ---- words
 
-viable_front : (e : Expr) (ps qs : List Step) (l : ℕ) → IsViable e (word_of ps ++ (l ∷ word_of qs)) → IsViable e (word_of ps ++ l ∷ [])
+viable_front : (e : ExprOf) (ps qs : List Step) (l : ℕ) → IsViable e (word_of ps ++ (l ∷ word_of qs)) → IsViable e (word_of ps ++ l ∷ [])
 viable_front e ps qs l v =
     (word_of qs ++ v.0, subst (In e) (append_assoc (word_of ps) (l ∷ word_of qs) v.0 ∙ sym (append_assoc (word_of ps) (l ∷ []) (word_of qs ++ v.0))) v.1)
 
-viable_on : (e : Expr) (front rest : List Step) (p : Step) → IsViable e (word_of front ++ word_of (p ∷ rest)) → IsViable e (word_of (front ++ p ∷ []) ++ word_of rest)
+viable_on : (e : ExprOf) (front rest : List Step) (p : Step) → IsViable e (word_of front ++ word_of (p ∷ rest)) → IsViable e (word_of (front ++ p ∷ []) ++ word_of rest)
 viable_on e front rest p v =
     subst (IsViable e) (sym (ap (λ (t : Word). t ++ word_of rest) (word_of-append front (p ∷ [])) ∙ append_assoc (word_of front) (p.label ∷ []) (word_of rest))) v
 
-pub viable_from_in : (e : Expr) (w : Word) → In e w → IsViable e w
+pub viable_from_in : (e : ExprOf) (w : Word) → In e w → IsViable e w
 viable_from_in e w i = ([], subst (In e) (sym (append-nil w)) i)
 
-pub viable_before : (e : Expr) (w : Word) (l : ℕ) → IsViable e (w ++ l ∷ []) → IsViable e w
+pub viable_before : (e : ExprOf) (w : Word) (l : ℕ) → IsViable e (w ++ l ∷ []) → IsViable e w
 viable_before e w l v = (l ∷ v.0, subst (In e) (append_assoc w (l ∷ []) v.0) v.1)
 
-viable_whole : (e : Expr) (w : Word) → IsContinuable e w → IsViable e w
+viable_whole : (e : ExprOf) (w : Word) → IsContinuable e w → IsViable e w
 viable_whole e w c = (c.0, c.2)
 
 -- ---- closed paths
@@ -49,7 +49,7 @@ abbrev pub done_with : {D : Type 0} → GraphOf D → State D
 done_with g = record { graph = g; open_rows = []; unset = [] }
 
 module _ {D : Type 0} where
-  Closed-append : (h : State D) (s : Scope) (ps qs : List Step) → PassesClosed h s ps → PassesClosed h (end_of s ps) qs → PassesClosed h s (ps ++ qs)
+  pub Closed-append : (h : State D) (s : Scope) (ps qs : List Step) → PassesClosed h s ps → PassesClosed h (end_of s ps) qs → PassesClosed h s (ps ++ qs)
   Closed-append h s [] qs a b = b
   Closed-append h s (p ∷ ps) qs a b = (a.0, Closed-append h p.to ps qs a.1 b)
 

@@ -6,7 +6,7 @@ use Rattle.sg_base.specs.declared.step.Step.{Step}
 use Rattle.sg_base.specs.Graph.{GraphOf}
 use Rattle.sg_base.specs.List.{IsRising, MoreThan}
 use Rattle.sg_base.proofs.Rising.{rising_one}
-use Rattle.sg_expr.specs.declared.expr.Expr.{Expr}
+use Rattle.sg_expr.specs.Tree.{ExprOf, expr_of}
 use Rattle.sg_order.specs.Order.{precedes}
 use Rattle.sg_query.specs.declared.answer.Answer.{Answer}
 use Rattle.sg_query.specs.declared.answer.Answer.TheVariants.{Paths, TooMany}
@@ -15,7 +15,7 @@ use Rattle.sg_query.specs.declared.kind.Kind.{Kind}
 use Rattle.sg_query.specs.declared.query.Query.{Query}
 use Rattle.sg_query.specs.Answer.{most_paths, Reaches, HoldsVisible, IsAnswer, found_cmp}
 use Rattle.sg_query.specs.Law.{AnswersAreOne}
-use Rattle.sg_query.specs.Query.{Asked, kind_of, asked}
+use Rattle.sg_query.specs.Query.{Asked, KindOf, value_of_kind, kind_of, asked}
 use Rattle.sg_query.specs.Shadow.{AreUnshadowed}
 use Rattle.sg_query.specs.Walk.{IsArrived, AreArrived, GoesOnFrom}
 use Rattle.sg_query.proofs.Sorting.{found_total}
@@ -53,20 +53,20 @@ module _ {D : Type 0} (g : GraphOf D) (q : Asked D) where
       (λ f. ((λ c. (y.1.visible f).1 ((x.1.visible f).0 c)), (λ c. (x.1.visible f).1 ((y.1.visible f).0 c)))))
 
 -- the answer by the paths that a walk along a kind's words found
-module _ {P D : Type 0} (g : GraphOf D) (wants : P → D → Bool) (same : D → D → Bool) (kinds : List Kind) (q : Query P) (k : Kind) (is : k ≡ kind_of kinds q.kind) where
-  pub answer_many : MoreThan most_paths (GoesOnFrom g k.expr q.start) → IsAnswer g (asked wants same kinds q) TooMany
-  answer_many m = subst (λ (t : Kind). MoreThan most_paths (GoesOnFrom g t.expr q.start)) is m
+module _ {P D : Type 0} (g : GraphOf D) (wants : P → D → Bool) (same : D → D → Bool) (kinds : List KindOf) (q : Query P) (k : Kind) (is : value_of_kind k ≡ kind_of kinds q.kind) where
+  pub answer_many : MoreThan most_paths (GoesOnFrom g (expr_of k.expr) q.start) → IsAnswer g (asked wants same kinds q) TooMany
+  answer_many m = subst (λ (t : KindOf). MoreThan most_paths (GoesOnFrom g t.expr q.start)) is m
 
-  pub answer_paths : (all r : List (Found D)) → (MoreThan most_paths (GoesOnFrom g k.expr q.start) → ⊥) → AreArrived g k.expr (wants q.pred) q.start all → IsRising found_cmp r → AreUnshadowed same (precedes k.order) all r → IsAnswer g (asked wants same kinds q) (Paths r)
+  pub answer_paths : (all r : List (Found D)) → (MoreThan most_paths (GoesOnFrom g (expr_of k.expr) q.start) → ⊥) → AreArrived g (expr_of k.expr) (wants q.pred) q.start all → IsRising found_cmp r → AreUnshadowed same (precedes k.order) all r → IsAnswer g (asked wants same kinds q) (Paths r)
   answer_paths all r few holds rising shown =
-      let arrived = subst (λ (t : Kind). AreArrived g t.expr (wants q.pred) q.start all) is holds in
-      let left = subst (λ (t : Kind). AreUnshadowed same (precedes t.order) all r) is shown in (
-        subst (λ (t : Kind). MoreThan most_paths (GoesOnFrom g t.expr q.start) → ⊥) is few,
+      let arrived = subst (λ (t : KindOf). AreArrived g t.expr (wants q.pred) q.start all) is holds in
+      let left = subst (λ (t : KindOf). AreUnshadowed same (precedes t.order) all r) is shown in (
+        subst (λ (t : KindOf). MoreThan most_paths (GoesOnFrom g t.expr q.start) → ⊥) is few,
         record { rising = rising; visible = visible_paths g (asked wants same kinds q) all r arrived left },
       )
 
 -- paths that arrive have one start
-pub one_start : {D : Type 0} (g : GraphOf D) (e : Expr) (wants : D → Bool) (start : Scope) (all : List (Found D)) → AreArrived g e wants start all → (f h : Found D) → Contains all f → Contains all h → f.path.start ≡ h.path.start
+pub one_start : {D : Type 0} (g : GraphOf D) (e : ExprOf) (wants : D → Bool) (start : Scope) (all : List (Found D)) → AreArrived g e wants start all → (f h : Found D) → Contains all f → Contains all h → f.path.start ≡ h.path.start
 one_start g e wants start all holds f h c k = ((holds.arrived f).0 c).0 ∙ sym ((holds.arrived h).0 k).0
 
 pub answers_are_one : (D : Type 0) → AnswersAreOne D

@@ -10,8 +10,7 @@ use Rattle.sg_base.specs.Label.{Word}
 use Rattle.sg_base.specs.Scope.{is_scope}
 use Rattle.sg_base.proofs.Finite.{nothing_in, Contains-head, Contains-cons, Contains-tail}
 use Rattle.sg_base.proofs.Scopes.{scope_same, same_scope, number_same, number_itself, step_by}
-use Rattle.sg_expr.specs.declared.expr.Expr.{Expr}
-use Rattle.sg_expr.specs.declared.expr.Expr.TheVariants.{Nothing, Empty, One, Seq', Alt', Star'}
+use Rattle.sg_expr.specs.Tree.{ExprOf, no_word, empty_word, one_label, in_turn, either_of, repeated}
 use Rattle.sg_expr.specs.Word.{In, Chain, IsContinuable}
 use Rattle.sg_expr.proofs.WordLemmas.{GoesOn, Splits-nil, nil-Splits, Splits-cons, cons-Splits, Splits-map, Chain-nil, Chain-cons, cons-Chain, GoesOn-Splits, first-GoesOn, second-GoesOn, GoesOn-Chain, once-Chain}
 use Rattle.sg_order.specs.Path.{IsPathBefore}
@@ -43,53 +42,53 @@ same_number a b = moved (number_same a b) (λ e. subst (λ (t : ℕ). eqb a t �
 
 -- ---- words
 
-nullable : (e : Expr) → Decided (In e [])
-nullable Nothing = inr (λ h. h)
-nullable Empty = inl refl
-nullable (One l) = inr (λ h. absurd (cc))
-nullable (Seq' p a q b) = moved (λ h. nil-Splits (In a) (In b) [] h.0 h.1) (Splits-nil (In a) (In b)) (both (nullable a) (nullable b))
-nullable (Alt' p a q b) = either (nullable a) (nullable b)
-nullable (Star' p a) = inl (Chain-nil (In a))
+nullable : (e : ExprOf) → Decided (In e [])
+nullable no_word = inr (λ h. h)
+nullable empty_word = inl refl
+nullable (one_label l) = inr (λ h. absurd (cc))
+nullable (in_turn a b) = moved (λ h. nil-Splits (In a) (In b) [] h.0 h.1) (Splits-nil (In a) (In b)) (both (nullable a) (nullable b))
+nullable (either_of a b) = either (nullable a) (nullable b)
+nullable (repeated a) = inl (Chain-nil (In a))
 
-live : (e : Expr) → Decided ((w : Word) × In e w)
-live Nothing = inr (λ h. h.1)
-live Empty = inl ([], refl)
-live (One l) = inl (l ∷ [], refl)
-live (Seq' p a q b) =
+live : (e : ExprOf) → Decided ((w : Word) × In e w)
+live no_word = inr (λ h. h.1)
+live empty_word = inl ([], refl)
+live (one_label l) = inl (l ∷ [], refl)
+live (in_turn a b) =
     moved (λ h. ((h.0).0 ++ (h.1).0, ((h.0).0, (h.1).0, refl, (h.0).1, (h.1).1))) (λ h. (((h.1).0, (h.1).3), ((h.1).1, (h.1).4))) (both (live a) (live b))
-live (Alt' p a q b) =
+live (either_of a b) =
     moved (λ h. elim h [ inl k ↦ (k.0, inl k.1) | inr k ↦ (k.0, inr k.1) ]) (λ h. elim h.1 [ inl k ↦ inl (h.0, k) | inr k ↦ inr (h.0, k) ]) (either (live a) (live b))
-live (Star' p a) = inl ([], Chain-nil (In a))
+live (repeated a) = inl ([], Chain-nil (In a))
 
-goes : (e : Expr) → Decided (GoesOn (In e))
-goes Nothing = inr (λ h. h.2)
-goes Empty = inr (λ h. h.1 h.2)
-goes (One l) = inl (l ∷ [], (λ h. absurd (cc)), refl)
-goes (Seq' p a q b) =
+goes : (e : ExprOf) → Decided (GoesOn (In e))
+goes no_word = inr (λ h. h.2)
+goes empty_word = inr (λ h. h.1 h.2)
+goes (one_label l) = inl (l ∷ [], (λ h. absurd (cc)), refl)
+goes (in_turn a b) =
     moved (λ h. elim h [ inl k ↦ first-GoesOn (In a) (In b) k.0 k.1 | inr k ↦ second-GoesOn (In a) (In b) k.0 k.1 ]) (GoesOn-Splits (In a) (In b)) (either (both (goes a) (live b)) (both (live a) (goes b)))
-goes (Alt' p a q b) =
+goes (either_of a b) =
     moved (λ h. elim h [ inl k ↦ (k.0, k.1, inl k.2) | inr k ↦ (k.0, k.1, inr k.2) ]) (λ h. elim h.2 [ inl k ↦ inl (h.0, h.1, k) | inr k ↦ inr (h.0, h.1, k) ]) (either (goes a) (goes b))
-goes (Star' p a) = moved (λ h. (h.0, h.1, once-Chain (In a) h.0 h.2)) (GoesOn-Chain (In a)) (goes a)
+goes (repeated a) = moved (λ h. (h.0, h.1, once-Chain (In a) h.0 h.2)) (GoesOn-Chain (In a)) (goes a)
 
 -- the words behind a label are those of an expression
-Behind : Expr → ℕ → Type 0
-Behind e l = (r : Expr) × ((w : Word) → (In r w) ↔ (In e (l ∷ w)))
+Behind : ExprOf → ℕ → Type 0
+Behind e l = (r : ExprOf) × ((w : Word) → (In r w) ↔ (In e (l ∷ w)))
 
-behind : (e : Expr) (l : ℕ) → Behind e l
+behind : (e : ExprOf) (l : ℕ) → Behind e l
 unfolding Behind
-behind Nothing l = (Nothing, λ w. ((λ h. h), (λ h. h)))
-behind Empty l = (Nothing, λ w. ((λ h. absurd h), (λ h. absurd (cc))))
-behind (One m) l =
+behind no_word l = (no_word, λ w. ((λ h. h), (λ h. h)))
+behind empty_word l = (no_word, λ w. ((λ h. absurd h), (λ h. absurd (cc))))
+behind (one_label m) l =
     elim (same_number l m) [
-      | inl e ↦ (Empty, λ w. ((λ h. cc), (λ h. cc)))
-      | inr n ↦ (Nothing, λ w. ((λ h. absurd h), (λ h. absurd (n (cc)))))
+      | inl e ↦ (empty_word, λ w. ((λ h. cc), (λ h. cc)))
+      | inr n ↦ (no_word, λ w. ((λ h. absurd h), (λ h. absurd (n (cc)))))
     ]
-behind (Seq' p a q b) l =
+behind (in_turn a b) l =
     let ra = behind a l in
     let rb = behind b l in
     elim (nullable a) [
       | inl n ↦ (
-        Alt' p (Seq' p ra.0 q b) q rb.0,
+        either_of (in_turn ra.0 b) rb.0,
         λ w. (
           (λ i. elim i [
             | inl k ↦ cons-Splits (In a) (In b) l w (Splits-map (In ra.0) (In b) (λ (x : Word). In a (l ∷ x)) (In b) (λ v. (ra.1 v).0) (λ v j. j) w k)
@@ -102,7 +101,7 @@ behind (Seq' p a q b) l =
         ),
       )
       | inr m ↦ (
-        Seq' p ra.0 q b,
+        in_turn ra.0 b,
         λ w. (
           (λ i. cons-Splits (In a) (In b) l w (Splits-map (In ra.0) (In b) (λ (x : Word). In a (l ∷ x)) (In b) (λ v. (ra.1 v).0) (λ v j. j) w i)),
           (λ i. elim (Splits-cons (In a) (In b) l w i) [
@@ -112,30 +111,30 @@ behind (Seq' p a q b) l =
         ),
       )
     ]
-behind (Alt' p a q b) l =
+behind (either_of a b) l =
     let ra = behind a l in
     let rb = behind b l in (
-      Alt' p ra.0 q rb.0,
+      either_of ra.0 rb.0,
       λ w. (
         (λ i. elim i [ inl k ↦ inl ((ra.1 w).0 k) | inr k ↦ inr ((rb.1 w).0 k) ]),
         (λ i. elim i [ inl k ↦ inl ((ra.1 w).1 k) | inr k ↦ inr ((rb.1 w).1 k) ]),
       ),
     )
-behind (Star' p a) l =
+behind (repeated a) l =
     let ra = behind a l in (
-      Seq' p ra.0 p (Star' p a),
+      in_turn ra.0 (repeated a),
       λ w. (
         (λ i. cons-Chain (In a) l w (Splits-map (In ra.0) (Chain (In a)) (λ (x : Word). In a (l ∷ x)) (Chain (In a)) (λ v. (ra.1 v).0) (λ v j. j) w i)),
         (λ i. Splits-map (λ (x : Word). In a (l ∷ x)) (Chain (In a)) (In ra.0) (Chain (In a)) (λ v. (ra.1 v).1) (λ v j. j) w (Chain-cons (In a) l w i)),
       ),
     )
 
-pub belongs : (e : Expr) (w : Word) → Decided (In e w)
+pub belongs : (e : ExprOf) (w : Word) → Decided (In e w)
 unfolding Behind
 belongs e [] = nullable e
 belongs e (l ∷ w) = let r = behind e l in moved (r.1 w).0 (r.1 w).1 (belongs r.0 w)
 
-pub continues : (e : Expr) (w : Word) → Decided (IsContinuable e w)
+pub continues : (e : ExprOf) (w : Word) → Decided (IsContinuable e w)
 unfolding Behind
 continues e [] = goes e
 continues e (l ∷ w) =

@@ -9,7 +9,7 @@ use Rattle.sg_base.specs.List.{MoreThan}
 use Rattle.sg_base.specs.Path.{end_of, word_of}
 use Rattle.sg_base.specs.State.{State, IsOpen, IsClosedPath}
 use Rattle.sg_base.proofs.Finite.{nothing_in, single, Contains-head, Contains-tail, Contains-cons, each_at, pigeons}
-use Rattle.sg_expr.specs.declared.expr.Expr.TheVariants.{One}
+use Rattle.sg_expr.specs.Tree.{one_label}
 use Rattle.sg_expr.specs.Word.{IsViable, IsContinuable}
 use Rattle.sg_query.specs.Answer.{most_paths}
 use Rattle.sg_query.specs.Example.{home, away, out_edge, back_edge, out_step, two_scopes, finished, open_row, open_both, unset_datum, open_elsewhere, further_edge, one_step, WaitsAreToldApart, LooksAreToldApart}
@@ -26,14 +26,14 @@ not_nil [] l v e = cc
 not_nil (x ∷ w) l v e = cc
 
 -- a path that one step goes on from has no step
-no_step_before : (ps : List Step) (l : ℕ) → IsViable (One 1) (word_of ps ++ l ∷ []) → (ps ≡ []) × (l ≡ 1)
+no_step_before : (ps : List Step) (l : ℕ) → IsViable (one_label 1) (word_of ps ++ l ∷ []) → (ps ≡ []) × (l ≡ 1)
 no_step_before [] l v = let e : l ∷ v.0 ≡ 1 ∷ [] = v.1 in (refl, cc)
 no_step_before (p ∷ ps) l v =
     let e : p.label ∷ ((word_of ps ++ l ∷ []) ++ v.0) ≡ 1 ∷ [] = v.1 in
     let rest : (word_of ps ++ l ∷ []) ++ v.0 ≡ [] = cc in
     absurd (not_nil (word_of ps) l v.0 rest)
 
-no_step_behind : (ps : List Step) → IsContinuable (One 1) (word_of ps) → ps ≡ []
+no_step_behind : (ps : List Step) → IsContinuable (one_label 1) (word_of ps) → ps ≡ []
 no_step_behind [] k = refl
 no_step_behind (p ∷ ps) k =
     let e : p.label ∷ (word_of ps ++ k.0) ≡ 1 ∷ [] = k.2 in
@@ -138,22 +138,22 @@ waits_apart = record {
   };
   settled = inl ((λ s l b. nothing_in (s, l) b.4), (λ s b. nothing_in s b.4));
   settled_elsewhere = settled_elsewhere;
-  not_yet = λ p b. not_through b.0 b.1 b.2;
-  row_behind = λ p. (
+  not_yet = λ b. not_through b.0 b.1 b.2;
+  row_behind = (
     out_step ∷ [],
     out_path ((away, 7) ∷ []) ((away, 2) ∷ []) [] (λ c. apart (ap (λ (r : Scope × ℕ). r.0) (single (away, 2) (home, 1) c))),
     refl,
     ([], (1 ∷ [], 2 ∷ [], refl, refl, refl)),
     Contains-head (away, 2) [],
   );
-  still_blocked = λ p. record {
+  still_blocked = record {
     rows = λ s l b. elim (Contains-cons (home, 1) (s, l) ((away, 2) ∷ []) b.4) [
       | inl e ↦ subst (λ (r : Scope × ℕ). Contains ((home, 1) ∷ []) r) (sym e) (Contains-head (home, 1) [])
       | inr k ↦ absurd (not_through b.0 b.1 (b.2 ∙ ap (λ (r : Scope × ℕ). r.0) (single (away, 2) (s, l) k)))
     ];
     data_at = λ s b. absurd (nothing_in s b.4);
   };
-  set_free = λ p still.
+  set_free = λ still.
       let shown : Contains ((away, 2) ∷ []) (home, 1) = still.rows home 1 ([], no_path open_both, refl, (2 ∷ [], (1 ∷ [], 2 ∷ [], refl, refl, refl)), Contains-head (home, 1) ((away, 2) ∷ [])) in
       apart (ap (λ (r : Scope × ℕ). r.0) (single (away, 2) (home, 1) shown));
 }
@@ -196,6 +196,6 @@ looks_apart = record {
     given = λ ps d c i u. ((λ e. e), (λ e. e));
     unset = λ ps c i u. absurd (nothing_in (end_of home ps) u);
   };
-  unlike = λ p a.
+  unlike = λ a.
       not_back ((a.edges (out_step ∷ []) 2 home (out_path ((away, 7) ∷ []) [] [] (nothing_in (home, 1))) ([], (1 ∷ [], 2 ∷ [], refl, refl, refl)) (nothing_in (away, 2))).1 is_back);
 }

@@ -14,7 +14,7 @@ use Rattle.sg_base.proofs.Edges.{one_datum}
 use Rattle.sg_base.proofs.Finite.{nothing_in, single, Contains-head, Contains-cons, Contains-tail, Contains-map, map-Contains, each_map, each_from, each_at}
 use Rattle.sg_base.proofs.Rising.{turned}
 use Rattle.sg_base.proofs.Scopes.{equal_path}
-use Rattle.sg_expr.specs.declared.expr.Expr.{Expr}
+use Rattle.sg_expr.specs.Tree.{ExprOf}
 use Rattle.sg_order.specs.Path.{IsPathBefore}
 use Rattle.sg_query.specs.declared.answer.Answer.{Answer}
 use Rattle.sg_query.specs.declared.answer.Answer.TheVariants.{Paths, TooMany}
@@ -111,11 +111,11 @@ last_of (q ∷ pss) =
     ]
 
 -- how a walk ends
-abbrev Ends : {D : Type 0} → GraphOf D → Expr → Scope → (D → Bool) → ℕ → Type 0
+abbrev Ends : {D : Type 0} → GraphOf D → ExprOf → Scope → (D → Bool) → ℕ → Type 0
 Ends {D} g e start wants most =
     MoreThan most (GoesOnFrom g e start) ⊎ ((all : List (Found D)) × (MoreThan most (GoesOnFrom g e start) → ⊥) × AreArrived g e wants start all)
 
-module _ {D : Type 0} (g : GraphOf D) (ok : IsGraph g) (e : Expr) (start : Scope) (wants : D → Bool) (most : ℕ) where
+module _ {D : Type 0} (g : GraphOf D) (ok : IsGraph g) (e : ExprOf) (start : Scope) (wants : D → Bool) (most : ℕ) where
   going_at : (ps : List Step) → ((qs : List Step) × IsGoing e ps qs) ⊎ ((qs : List Step) → IsGoing e ps qs → ⊥)
   going_at ps = elim (continues e (word_of ps)) [ inl c ↦ inl (ps, (refl, c)) | inr n ↦ inr (λ qs k. n k.1) ]
 

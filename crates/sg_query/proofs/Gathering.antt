@@ -10,7 +10,7 @@ use Rattle.sg_base.specs.Label.{Word}
 use Rattle.sg_base.specs.List.{IsDistinct}
 use Rattle.sg_base.proofs.Finite.{nothing_in, Contains-head, Contains-cons, Contains-tail, Contains-map, each_append, each_at, each_from}
 use Rattle.sg_base.specs.Path.{word_of}
-use Rattle.sg_expr.specs.declared.expr.Expr.{Expr}
+use Rattle.sg_expr.specs.Tree.{ExprOf, expr_of}
 use Rattle.sg_expr.specs.Word.{In, IsContinuable}
 use Rattle.sg_query.specs.declared.going.Going.{Going}
 use Rattle.sg_query.specs.declared.walk.Seen.{Seen}
@@ -108,15 +108,15 @@ module _ (ps : List Step) (x : Going) (within : x.depth ≤ length ps) where
   paths_kept (y ∷ xs) h =
       ap (λ (t : List Step). t ∷ paths_of (path_at ps x) xs) (path_kept y h.0) ∙ ap (λ (t : List (List Step)). path_at ps y ∷ t) (paths_kept xs h.2)
 
-  pub rests_kept : (e : Expr) (xs : List Going) → AreNested x.depth xs → AllByRecursion (HasRest e ps) xs → AllByRecursion (HasRest e (path_at ps x)) xs
+  pub rests_kept : (e : ExprOf) (xs : List Going) → AreNested x.depth xs → AllByRecursion (HasRest e ps) xs → AllByRecursion (HasRest e (path_at ps x)) xs
   rests_kept e [] h r = tt
-  rests_kept e (y ∷ xs) h r = (subst (λ (t : List Step). IsRest e t y.rest) (sym (path_kept y h.0)) r.0, rests_kept e xs h.2 r.1)
+  rests_kept e (y ∷ xs) h r = (subst (λ (t : List Step). IsRest e t (expr_of y.rest)) (sym (path_kept y h.0)) r.0, rests_kept e xs h.2 r.1)
 
   -- a walk that goes there has gone at least so far
   pub gone : x.depth ≤ length (path_at ps x)
   gone = omega (arith, length-append (take x.depth ps) (if_any x.last), length-take x.depth ps)
 
-module _ {D : Type 0} {g : GraphOf D} {e : Expr} {wants : D → Bool} {start : Scope} {at : List Step} where
+module _ {D : Type 0} {g : GraphOf D} {e : ExprOf} {wants : D → Bool} {start : Scope} {at : List Step} where
   pub Visits-none : (a : Seen D) → Visits g e wants start at [] a a
   Visits-none a = record {
     going = GathersOn-none (IsGoing e) (paths_of at a.going.items);
@@ -146,7 +146,7 @@ module _ {D : Type 0} {g : GraphOf D} {e : Expr} {wants : D → Bool} {start : S
   Visits-full {xs} {ys} whole rest same h k over = (xs ++ ys, rest, same ∙ sym (append_assoc xs ys rest), Visits-append h k, over)
 
   -- a path that goes on is added, and one that does not is left out
-  pub going_more : (a b c : Seen D) (x : Going) → x.depth ≡ length at → IsRest e (at ++ if_any x.last) x.rest → IsContinuable e (word_of (at ++ if_any x.last)) → c.going.items ≡ b.going.items ++ x ∷ [] → b.going.items ≡ a.going.items → c.found.items ≡ b.found.items → GathersOn (IsFound g e wants start) ((at ++ if_any x.last) ∷ []) a.found.items b.found.items → Visits g e wants start at ((at ++ if_any x.last) ∷ []) a c
+  pub going_more : (a b c : Seen D) (x : Going) → x.depth ≡ length at → IsRest e (at ++ if_any x.last) (expr_of x.rest) → IsContinuable e (word_of (at ++ if_any x.last)) → c.going.items ≡ b.going.items ++ x ∷ [] → b.going.items ≡ a.going.items → c.found.items ≡ b.found.items → GathersOn (IsFound g e wants start) ((at ++ if_any x.last) ∷ []) a.found.items b.found.items → Visits g e wants start at ((at ++ if_any x.last) ∷ []) a c
   going_more a b c x depth rest k more same kept found =
       let all : c.going.items ≡ a.going.items ++ x ∷ [] = more ∙ ap (λ (t : List Going). t ++ x ∷ []) same in
       let here : path_at at x ≡ at ++ if_any x.last = ap (λ (n : ℕ). take n at ++ if_any x.last) depth ∙ ap (λ (t : List Step). t ++ if_any x.last) (take_all (length at) at (omega arith)) in
@@ -154,7 +154,7 @@ module _ {D : Type 0} {g : GraphOf D} {e : Expr} {wants : D → Bool} {start : S
       ap (paths_of at) all ∙ map-append (path_at at) a.going.items (x ∷ []) ∙ ap (λ (t : List Step). paths_of at a.going.items ++ t ∷ []) here in
       record {
         going = subst (GathersOn (IsGoing e) ((at ++ if_any x.last) ∷ []) (paths_of at a.going.items)) (sym paths) (GathersOn-one (IsGoing e) (at ++ if_any x.last) (at ++ if_any x.last) (paths_of at a.going.items) (refl, k));
-        rests = λ r. subst (AllByRecursion (HasRest e at)) (sym all) (each_append (HasRest e at) a.going.items (x ∷ []) r (subst (λ (t : List Step). IsRest e t x.rest) (sym here) rest, tt));
+        rests = λ r. subst (AllByRecursion (HasRest e at)) (sym all) (each_append (HasRest e at) a.going.items (x ∷ []) r (subst (λ (t : List Step). IsRest e t (expr_of x.rest)) (sym here) rest, tt));
         nested = λ r. subst (AreNested (length at)) (sym all) (Nested-push (length at) a.going.items x depth r);
         found = subst (GathersOn (IsFound g e wants start) ((at ++ if_any x.last) ∷ []) a.found.items) (sym kept) found;
       }
@@ -168,14 +168,14 @@ module _ {D : Type 0} {g : GraphOf D} {e : Expr} {wants : D → Bool} {start : S
   }
 
 -- what goes on behind steps, by the expression of the words behind them
-pub goes_behind : (e rest : Expr) (w : Word) → ((v : Word) → (In rest v) ↔ (In e (w ++ v))) → ((v : Word) × (v ≢ []) × In rest v) → IsContinuable e w
+pub goes_behind : (e rest : ExprOf) (w : Word) → ((v : Word) → (In rest v) ↔ (In e (w ++ v))) → ((v : Word) × (v ≢ []) × In rest v) → IsContinuable e w
 goes_behind e rest w same h = (h.0, h.1, (same h.0).0 h.2)
 
-pub behind_goes : (e rest : Expr) (w : Word) → ((v : Word) → (In rest v) ↔ (In e (w ++ v))) → IsContinuable e w → (v : Word) × (v ≢ []) × In rest v
+pub behind_goes : (e rest : ExprOf) (w : Word) → ((v : Word) → (In rest v) ↔ (In e (w ++ v))) → IsContinuable e w → (v : Word) × (v ≢ []) × In rest v
 behind_goes e rest w same h = (h.0, h.1, (same h.0).1 h.2)
 
 -- the rest of a path with one more step
-pub rest_more : (e rest after : Expr) (ps : List Step) (z : Step) → IsRest e ps rest → ((w : Word) → (In after w) ↔ (In rest (z.label ∷ w))) → IsRest e (ps ++ z ∷ []) after
+pub rest_more : (e rest after : ExprOf) (ps : List Step) (z : Step) → IsRest e ps rest → ((w : Word) → (In after w) ↔ (In rest (z.label ∷ w))) → IsRest e (ps ++ z ∷ []) after
 rest_more e rest after ps z is behind w =
     let word : word_of (ps ++ z ∷ []) ++ w ≡ word_of ps ++ (z.label ∷ w) = ap (λ (t : Word). t ++ w) (word_of-append ps (z ∷ [])) ∙ append_assoc (word_of ps) (z.label ∷ []) w in (
       (λ h. subst (In e) (sym word) ((is (z.label ∷ w)).0 ((behind w).0 h))),

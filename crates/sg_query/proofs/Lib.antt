@@ -6,7 +6,9 @@ pub mod Existing
 pub mod Extending
 mod FlatNames
 pub mod Gathering
+pub mod Marking
 pub mod Paths
+pub mod Placing
 pub mod Reaching
 pub mod Settling
 pub mod Shadowing

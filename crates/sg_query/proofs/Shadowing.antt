@@ -1,5 +1,5 @@
 -- The paths that no other shadows, each once.
-use Rattle.std.proofs.Common.{◌≡◌, List, [], ◌∷◌, Bool, inl, inr, refl, sym, ap, ◌∙◌, subst, map}
+use Rattle.std.proofs.Common.{◌≡◌, List, [], ◌∷◌, Bool, inl, inr, refl, sym, ap, ◌∙◌, ◌↔◌, subst, map}
 use Rattle.std.specs.List.{Contains}
 use Rattle.sg_base.specs.declared.mark.Mark.{Mark}
 use Rattle.sg_base.specs.List.{IsDistinct}
@@ -34,3 +34,10 @@ module _ {D : Type 0} (same : D → D → Bool) (order : Mark → Mark → Bool)
         subst (λ (t : Found D). Contains all t × (IsShadowed same order all t → ⊥)) (sym (m.2).0) (m.1, (m.2).1)),
     (λ k. Gathers-to IsShown (λ x y z r s. r.0 ∙ sym s.0) all ys h f f k.0 (refl, k.1)),
   )
+
+-- the paths that nothing shadows are the same in each list of the same paths
+pub unshadowed_moved : {D : Type 0} (same : D → D → Bool) (order : Mark → Mark → Bool) (all moved fs : List (Found D)) → ((f : Found D) → (Contains moved f) ↔ (Contains all f)) → AreUnshadowed same order moved fs → AreUnshadowed same order all fs
+unshadowed_moved same order all moved fs alike shown f = (
+  (λ c. let k = (shown f).0 c in ((alike f).0 k.0, (λ s. k.1 (s.0, (alike s.0).1 s.1, s.2, s.3)))),
+  (λ k. (shown f).1 ((alike f).1 k.0, (λ s. k.1 (s.0, (alike s.0).0 s.1, s.2, s.3)))),
+)

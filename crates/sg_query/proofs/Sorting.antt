@@ -9,8 +9,8 @@ use Rattle.std.specs.Ordering.{is_eq, is_lt, ordering_reverse}
 use Rattle.std.specs.declared.cmp.Ordering.{Ordering}
 use Rattle.std.specs.declared.cmp.Ordering.TheVariants.{Less, Equal, Greater}
 use Rattle.sg_base.specs.List.{IsDistinct, IsRising}
-use Rattle.sg_base.specs.Path.{path_cmp, path_total}
-use Rattle.sg_base.proofs.Finite.{each_from, map-Contains}
+use Rattle.sg_base.specs.Path.{PathOf, path_cmp, path_total}
+use Rattle.sg_base.proofs.Finite.{each_from, each_at, map-Contains, Contains-map}
 use Rattle.sg_base.proofs.Rising.{rising_from_sorted}
 use Rattle.sg_base.proofs.Scopes.{equal_path}
 use Rattle.sg_query.specs.declared.found.Found.{Found}
@@ -34,6 +34,11 @@ flips Greater Less e = refl
 flips Greater Equal e = absurd (cc)
 flips Greater Greater e = refl
 
+self_equal : (o : Ordering) → o ≡ ordering_reverse o → is_eq o ≡ true
+self_equal Less e = absurd (cc)
+self_equal Equal e = refl
+self_equal Greater e = absurd (cc)
+
 is_equal : (o : Ordering) → is_eq o ≡ true → o ≡ Equal
 is_equal Less e = absurd (cc)
 is_equal Equal e = refl
@@ -56,6 +61,22 @@ module _ {D : Type 0} where
     ]),
     apart xs d.1,
   )
+
+  distinct : (xs : List (Found D)) → AreApart alike xs → IsDistinct (map (λ f. f.path) xs)
+  unfolding AreApart
+  distinct [] a = tt
+  distinct (x ∷ xs) a = (
+    (λ c.
+        let m = Contains-map (λ (f : Found D). f.path) xs x.path c in
+        let other : is_eq (path_cmp x.path m.0.path) ≡ false = each_at (λ y. alike x y ≡ false) xs a.0 m.0 m.1 in
+        let self : is_eq (path_cmp x.path x.path) ≡ false = subst (λ (p : PathOf). is_eq (path_cmp x.path p) ≡ false) (sym m.2) other in
+        cc (self, self_equal (path_cmp x.path x.path) (path_total.antisymm x.path x.path))),
+    distinct xs a.1,
+  )
+
+  pub distinct_sorted : (xs ys : List (Found D)) → IsPermutation xs ys → IsDistinct (map (λ f. f.path) xs) → IsDistinct (map (λ f. f.path) ys)
+  distinct_sorted xs ys p d =
+      distinct ys (IsDistinct-IsPermutation alike (λ f h. flips (path_cmp f.path h.path) (path_cmp h.path f.path) (path_total.antisymm f.path h.path)) xs ys p (apart xs d))
 
   pub sorted_rise : (xs ys : List (Found D)) → IsDistinct (map (λ f. f.path) xs) → IsPermutation xs ys → IsSortedBy (λ x y. is_lt (found_cmp x y)) ys → IsRising found_cmp ys
   sorted_rise xs [] d p s = tt

@@ -10,7 +10,7 @@ use Rattle.sg_base.specs.Graph.{GraphOf, IsGraph}
 use Rattle.sg_base.specs.List.{IsDistinct, MoreThan}
 use Rattle.sg_base.specs.Path.{reached_by}
 use Rattle.sg_base.proofs.Finite.{each_at, each_from, Distinct-last}
-use Rattle.sg_expr.specs.declared.expr.Expr.{Expr}
+use Rattle.sg_expr.specs.Tree.{ExprOf}
 use Rattle.sg_query.specs.declared.found.Found.{Found}
 use Rattle.sg_query.specs.declared.going.Going.{Going}
 use Rattle.sg_query.specs.declared.walk.Seen.{Seen}
@@ -26,7 +26,7 @@ fresh_last ps None d = tt
 fresh_last ps (Some x) d =
     Distinct-last (reached_by ps) x.to (subst (λ (t : List Scope). IsDistinct t) (reached_by-append ps (x ∷ [])) d)
 
-module _ {D : Type 0} (g : GraphOf D) (ok : IsGraph g) (e : Expr) (start : Scope) (wants : D → Bool) where
+module _ {D : Type 0} (g : GraphOf D) (ok : IsGraph g) (e : ExprOf) (start : Scope) (wants : D → Bool) where
   -- the paths behind which the walk has looked, and with those what it has seen so far
   pub record Stands (steps : List Step) (room : ℕ) (going : List Going) (found : List (Found D)) : Type 0 where
     pub done : List (List Step)

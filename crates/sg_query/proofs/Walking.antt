@@ -12,7 +12,7 @@ use Rattle.sg_base.specs.Path.{PathOf, word_of}
 use Rattle.sg_base.proofs.Edges.{one_datum}
 use Rattle.sg_base.proofs.Finite.{nothing_in, single, Contains-head, Contains-cons, Contains-tail, each_append, each_from, Contains-map, Distinct-append, Distinct-left, Distinct-last, no_more}
 use Rattle.sg_base.proofs.Scopes.{path_by}
-use Rattle.sg_expr.specs.declared.expr.Expr.{Expr}
+use Rattle.sg_expr.specs.Tree.{ExprOf}
 use Rattle.sg_expr.specs.Word.{In, IsContinuable}
 use Rattle.sg_query.specs.declared.found.Found.{Found}
 use Rattle.sg_query.specs.Walk.{Gathers, GathersOn, IsGoing, IsReached, IsFound, IsArrived, AreArrived, GoesOnFrom, one_more}
@@ -24,14 +24,14 @@ right_not_nil : (u v : Word) → u ++ v ≡ [] → v ≡ []
 right_not_nil [] v e = e
 right_not_nil (x ∷ u) v e = absurd (cc)
 
-pub continuable_front : (e : Expr) (p q : List Step) → IsContinuable e (word_of (p ++ q)) → IsContinuable e (word_of p)
+pub continuable_front : (e : ExprOf) (p q : List Step) → IsContinuable e (word_of (p ++ q)) → IsContinuable e (word_of p)
 continuable_front e p q c = (
   word_of q ++ c.0,
   (λ h. c.1 (right_not_nil (word_of q) c.0 h)),
   subst (In e) (ap (λ (t : Word). t ++ c.0) (word_of-append p q) ∙ append_assoc (word_of p) (word_of q) c.0) c.2,
 )
 
-pub continuable_in : (e : Expr) (p q : List Step) (x : Step) → In e (word_of (p ++ x ∷ q)) → IsContinuable e (word_of p)
+pub continuable_in : (e : ExprOf) (p q : List Step) (x : Step) → In e (word_of (p ++ x ∷ q)) → IsContinuable e (word_of p)
 continuable_in e p q x i = (word_of (x ∷ q), (λ h. cc), subst (In e) (word_of-append p (x ∷ q)) i)
 
 pub found_by : {D : Type 0} (f h : Found D) → f.path ≡ h.path → f.datum ≡ h.datum → f ≡ h
@@ -42,7 +42,7 @@ map_same : (pss : List (List Step)) → map (λ ps. ps) pss ≡ pss
 map_same [] = refl
 map_same (p ∷ pss) = ap (λ (t : List (List Step)). p ∷ t) (map_same pss)
 
-module _ {D : Type 0} (g : GraphOf D) (ok : IsGraph g) (e : Expr) (start : Scope) where
+module _ {D : Type 0} (g : GraphOf D) (ok : IsGraph g) (e : ExprOf) (start : Scope) where
   abbrev Goes : List Step → Type 0
   Goes ps = IsContinuable e (word_of ps)
 

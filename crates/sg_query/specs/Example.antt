@@ -1,12 +1,10 @@
 -- Small states that tell apart what waits, what is settled, and what is looked at.
-use Rattle.std.specs.Prelude.{ℕ, List, [], ◌∷◌, true, false, ◌==◌, Box}
-use Rattle.std.specs.declared.alloc.Global.{Global}
+use Rattle.std.specs.Prelude.{ℕ, List, [], ◌∷◌, true, false, ◌==◌}
 use Rattle.sg_base.specs.declared.scope.Scope.{Scope}
 use Rattle.sg_base.specs.declared.step.Step.{Step}
 use Rattle.sg_base.specs.Graph.{Edge, IsGraph}
 use Rattle.sg_base.specs.State.{State, Extends, Follows}
-use Rattle.sg_expr.specs.declared.expr.Expr.{Expr}
-use Rattle.sg_expr.specs.declared.expr.Expr.TheVariants.{One, Seq'}
+use Rattle.sg_expr.specs.Tree.{ExprOf, one_label, in_turn}
 use Rattle.sg_query.specs.Growth.{LooksAlike, StillBlocked}
 use Rattle.sg_query.specs.Query.{Asked}
 use Rattle.sg_query.specs.State.{RowBlocks, IsSettled, next, whole, IsItem}
@@ -61,20 +59,16 @@ abbrev pub further_edge : State ℕ
 further_edge = two_scopes (out_edge ∷ back_edge ∷ []) ((away, 7) ∷ []) [] []
 
 -- a query from the first scope for all data at the ends of an expression's words
-abbrev pub all_data : Expr → Asked ℕ
+abbrev pub all_data : ExprOf → Asked ℕ
 all_data e = record { start = home; expr = e; order = λ m n. false; wants = λ d. true; same = λ d e. d == e }
 
 -- a query that follows the word of the label 1
 abbrev pub one_step : Asked ℕ
-one_step = all_data (One 1)
-
--- where the parts of an expression are kept
-abbrev pub Place : Type 0
-Place = Box (Unit {0}) Global
+one_step = all_data (one_label 1)
 
 -- a query that follows the word of the labels 1 and 2
-abbrev pub two_steps : Place → Asked ℕ
-two_steps p = all_data (Seq' p (One 1) p (One 2))
+abbrev pub two_steps : Asked ℕ
+two_steps = all_data (in_turn (one_label 1) (one_label 2))
 
 -- the step along the edge
 abbrev pub out_step : Step
@@ -93,11 +87,11 @@ pub record WaitsAreToldApart : Type 0 where
   pub settled : IsSettled finished one_step
   pub settled_elsewhere : IsSettled open_elsewhere one_step
   -- a row behind an open one does not block the query while that is open, and does once it is closed
-  pub not_yet : (p : Place) → RowBlocks open_both (two_steps p) away 2 → ⊥
-  pub row_behind : (p : Place) → RowBlocks open_behind (two_steps p) away 2
+  pub not_yet : RowBlocks open_both two_steps away 2 → ⊥
+  pub row_behind : RowBlocks open_behind two_steps away 2
   -- so the query waits as before where that row is closed first, and not where the first one is
-  pub still_blocked : (p : Place) → StillBlocked open_both open_row (two_steps p)
-  pub set_free : (p : Place) → StillBlocked open_both open_behind (two_steps p) → ⊥
+  pub still_blocked : StillBlocked open_both open_row two_steps
+  pub set_free : StillBlocked open_both open_behind two_steps → ⊥
 
 -- what a query looks at
 pub record LooksAreToldApart : Type 0 where
@@ -109,4 +103,4 @@ pub record LooksAreToldApart : Type 0 where
   -- an edge in a row that was not open may not come, and yet changes nothing for a query that does not follow it
   pub may_not_come : Extends finished further_edge.graph → ⊥
   pub alike : LooksAlike finished further_edge one_step
-  pub unlike : (p : Place) → LooksAlike finished further_edge (two_steps p) → ⊥
+  pub unlike : LooksAlike finished further_edge two_steps → ⊥

@@ -1,7 +1,9 @@
 pub mod Answer
 pub mod Example
 pub mod Growth
+pub mod Kinds
 pub mod Law
+pub mod Marks
 pub mod Query
 pub mod Shadow
 pub mod State

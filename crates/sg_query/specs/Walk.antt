@@ -7,7 +7,7 @@ use Rattle.sg_base.specs.Graph.{GraphOf, HasDatum, IsPath, row_of}
 use Rattle.sg_base.specs.List.{IsDistinct}
 use Rattle.sg_base.specs.Path.{end_of, word_of}
 use Rattle.sg_base.specs.Label.{Word}
-use Rattle.sg_expr.specs.declared.expr.Expr.{Expr}
+use Rattle.sg_expr.specs.Tree.{ExprOf, expr_of}
 use Rattle.sg_expr.specs.Word.{In, IsContinuable}
 use Rattle.sg_query.specs.declared.found.Found.{Found}
 use Rattle.sg_query.specs.declared.going.Going.{Going}
@@ -40,12 +40,12 @@ abbrev pub paths_of : List Step → List Going → List (List Step)
 paths_of ps xs = map (path_at ps) xs
 
 -- the expression has the words that may follow the word of these steps in the first one
-abbrev pub IsRest : Expr → List Step → Expr → Type 0
+abbrev pub IsRest : ExprOf → List Step → ExprOf → Type 0
 IsRest e ps rest = (w : Word) → (In rest w) ↔ (In e (word_of ps ++ w))
 
 -- the rest of a path has the words that may follow its word
-abbrev pub HasRest : Expr → List Step → Going → Type 0
-HasRest e ps x = IsRest e (path_at ps x) x.rest
+abbrev pub HasRest : ExprOf → List Step → Going → Type 0
+HasRest e ps x = IsRest e (path_at ps x) (expr_of x.rest)
 
 -- each path begins with no more of n steps than those behind it
 abbrev pub AreNested : ℕ → List Going → Type 0
@@ -62,39 +62,39 @@ abbrev pub GathersOn : {X Y : Type 0} → (X → Y → Type 0) → List X → Li
 GathersOn {X} {Y} R xs old new = (ys : List Y) × (new ≡ old ++ ys) × Gathers R xs ys
 
 -- the steps themselves, where their word goes on
-abbrev pub IsGoing : Expr → List Step → List Step → Type 0
+abbrev pub IsGoing : ExprOf → List Step → List Step → Type 0
 IsGoing e ps qs = (qs ≡ ps) × IsContinuable e (word_of ps)
 
 -- the steps have a word of the expression, and their end this wanted datum
-abbrev pub IsReached : {D : Type 0} → GraphOf D → Expr → (D → Bool) → Scope → List Step → D → Type 0
+abbrev pub IsReached : {D : Type 0} → GraphOf D → ExprOf → (D → Bool) → Scope → List Step → D → Type 0
 IsReached g e wants start ps d = In e (word_of ps) × HasDatum g (end_of start ps) d × IsTrue (wants d)
 
 -- the path with these steps and the wanted datum at its end
-abbrev pub IsFound : {D : Type 0} → GraphOf D → Expr → (D → Bool) → Scope → List Step → Found D → Type 0
+abbrev pub IsFound : {D : Type 0} → GraphOf D → ExprOf → (D → Bool) → Scope → List Step → Found D → Type 0
 IsFound g e wants start ps f = (f.path ≡ record { start = start; steps = ps }) × IsReached g e wants start ps f.datum
 
 -- where a walk stands on some steps: of these paths, those that go on, each with its rest, and those that reach a wanted datum are added
 -- to what was seen
-pub record Visits {D : Type 0} (g : GraphOf D) (e : Expr) (wants : D → Bool) (start : Scope) (at : List Step) (pss : List (List Step)) (old new : Seen D) : Type 0 where
+pub record Visits {D : Type 0} (g : GraphOf D) (e : ExprOf) (wants : D → Bool) (start : Scope) (at : List Step) (pss : List (List Step)) (old new : Seen D) : Type 0 where
   pub going : GathersOn (IsGoing e) pss (paths_of at old.going.items) (paths_of at new.going.items)
   pub rests : AllByRecursion (HasRest e at) old.going.items → AllByRecursion (HasRest e at) new.going.items
   pub nested : AreNested (length at) old.going.items → AreNested (length at) new.going.items
   pub found : GathersOn (IsFound g e wants start) pss old.found.items new.found.items
 
 -- all of these paths are visited, or so many that more go on than there is room for
-abbrev pub VisitsWithin : {D : Type 0} → GraphOf D → Expr → (D → Bool) → Scope → List Step → List (List Step) → ℕ → Seen D → Seen D → Bool → Type 0
+abbrev pub VisitsWithin : {D : Type 0} → GraphOf D → ExprOf → (D → Bool) → Scope → List Step → List (List Step) → ℕ → Seen D → Seen D → Bool → Type 0
 VisitsWithin g e wants start at pss room old new all =
     MatchBool all (Visits g e wants start at pss old new × (length new.going.items ≤ room)) ((front : List (List Step)) × (back : List (List Step)) × (pss ≡ front ++ back) × Visits g e wants start at front old new × (room < length new.going.items))
 
 -- a path of the graph with a word of the expression and a wanted datum at its end
-abbrev pub IsArrived : {D : Type 0} → GraphOf D → Expr → (D → Bool) → Scope → List Step → D → Type 0
+abbrev pub IsArrived : {D : Type 0} → GraphOf D → ExprOf → (D → Bool) → Scope → List Step → D → Type 0
 IsArrived g e wants start ps d = IsPath g start ps × IsReached g e wants start ps d
 
 -- a path of the graph whose word goes on
-abbrev pub GoesOnFrom : {D : Type 0} → GraphOf D → Expr → Scope → List Step → Type 0
+abbrev pub GoesOnFrom : {D : Type 0} → GraphOf D → ExprOf → Scope → List Step → Type 0
 GoesOnFrom g e start ps = IsPath g start ps × IsContinuable e (word_of ps)
 
 -- the list holds each path that arrives once, with its end's datum
-pub record AreArrived {D : Type 0} (g : GraphOf D) (e : Expr) (wants : D → Bool) (start : Scope) (fs : List (Found D)) : Type 0 where
+pub record AreArrived {D : Type 0} (g : GraphOf D) (e : ExprOf) (wants : D → Bool) (start : Scope) (fs : List (Found D)) : Type 0 where
   pub once : IsDistinct (map (λ f. f.path) fs)
   pub arrived : (f : Found D) → (Contains fs f) ↔ ((f.path.start ≡ start) × IsArrived g e wants start f.path.steps f.datum)

@@ -14,8 +14,8 @@ use std::alloc::{AllocError, Global};
 
 /// The answer of a query, by all paths of the graph that its words follow.
 ///
-/// Looks at 4,096 paths that go on at most, and compares each two found paths: use a resolver of the crates above where
-/// time counts.
+/// Looks at 4,096 paths that go on at most. Where the kind's order has a pair, found paths whose data have one key are
+/// compared, each with each; and the paths are sorted.
 pub fn ans_plain<I: Instance>(
     alloc: Global,
     g: &Graph<I::Datum>,
@@ -38,8 +38,8 @@ pub fn ans_plain<I: Instance>(
     match walk.arrived()? {
         None => Ok(Answer::TooMany),
         Some(all) => {
-            let visible = visible_of::<I>(alloc, &kind.order, all.as_slice())?;
-            Ok(Answer::Paths(FoundPaths::new(visible)))
+            let visible = visible_of::<I>(alloc, &kind.order, all)?;
+            Ok(Answer::Paths(FoundPaths::new(alloc, visible)?))
         }
     }
 }

@@ -79,7 +79,8 @@ impl Steps {
     pub fn path(&self, alloc: Global, start: Scope, last: &Option<Step>) -> Result<Path, AllocError>
         ensures { IfOk result (λ r. r ≡ record { start = start; steps = self.now ++ if_any last.now }) }
     {
-        let mut items = Vec::from_slice(alloc, self.items.as_slice())?;
+        let mut items = Vec::with_capacity(alloc, self.len().saturating_add(1))?;
+        items.extend_from_slice(self.items.as_slice())?;
         if let Some(step) = last {
             items.push(*step)?;
         }

@@ -1,6 +1,6 @@
 //! Answers in small graphs, worked out by hand.
 
-use crate::{Answer, Kind, KindTable, Query, ans_plain};
+use crate::{Answer, Kind, KindTable, Query, ans_plain, copy_query};
 use sg_base::{Graph, Instance, Label, Mark, Scope, Step};
 use sg_expr::Expr;
 use sg_order::Order;
@@ -74,6 +74,8 @@ impl Instance for Numbers {
       transitive = λ a b c h k. Prim.grind (arith, nat_tests);
     } };
 
+    ghost one_key = { λ a b h. Prim.grind (arith, nat_tests) };
+
     ghost keyed = { λ p d k. elim p [ Is n ↦ λ e t. Prim.grind (arith, nat_tests) | Any ↦ λ e t. Prim.grind (arith, nat_tests) ] };
 }
 
@@ -122,7 +124,7 @@ fn answer(
     let order = Order::new(order).ok().ok_or("the order is not strict")?;
     let mut kinds = Vec::new(alloc);
     kinds.push(Kind { expr, order })?;
-    let table = KindTable::new(kinds);
+    let table = KindTable::new(alloc, kinds)?;
     let start = scope(0);
     if table.is_empty() || !graph.has_scope(start) {
         return Err("scope 0 or kind 0 is not there".into());
@@ -197,12 +199,74 @@ fn the_nearest_of_equal_data_is_visible(rt: HostRuntime) -> Result<(), Fail> {
 }
 
 #[test]
+fn data_of_other_keys_shadow_nothing(rt: HostRuntime) -> Result<(), Fail> {
+    let alloc = rt.alloc();
+    let edges = [
+        (0, 1, 1),
+        (0, 0, 2),
+        (1, 0, 3),
+        (1, 1, 4),
+        (4, 0, 5),
+        (4, 0, 6),
+    ];
+    let graph = graph_of(alloc, &edges, &[(2, 7), (3, 8), (5, 7), (6, 9)])?;
+    let zero_first = [(Mark::Of(Label::new(0)), Mark::Of(Label::new(1)))];
+    let all = answer(
+        alloc,
+        &graph,
+        ones_and_zero(alloc)?,
+        &zero_first,
+        Wanted::Any,
+    )?;
+    let paths: [(&[(u8, u32)], u64); 3] = [
+        (&[(0, 2)], 7),
+        (&[(1, 1), (0, 3)], 8),
+        (&[(1, 1), (1, 4), (0, 6)], 9),
+    ];
+    assert!(rt; has_paths(&all, &paths));
+    assert!(rt; has_paths(&all.share()?, &paths));
+    Ok(())
+}
+
+#[test]
 fn a_cycle_is_followed_once(rt: HostRuntime) -> Result<(), Fail> {
     let alloc = rt.alloc();
     let graph = graph_of(alloc, &[(0, 0, 1), (1, 0, 0), (1, 0, 1)], &[(0, 5), (1, 6)])?;
     let zeros = Expr::Star(Box::new(alloc, Expr::One(Label::new(0)))?);
     let all = answer(alloc, &graph, zeros, &[], Wanted::Any)?;
     assert!(rt; has_paths(&all, &[(&[], 5), (&[(0, 1)], 6)]));
+    Ok(())
+}
+
+#[test]
+fn a_table_keeps_positions(rt: HostRuntime) -> Result<(), Fail> {
+    let alloc = rt.alloc();
+    let expr = ones_and_zero(alloc)?;
+    if !expr.names_at_most(63) {
+        return Err("the expression names too many labels".into());
+    }
+    let order = Order::new(&[]).ok().ok_or("the order is not strict")?;
+    let mut kinds = Vec::new(alloc);
+    kinds.push(Kind { expr, order })?;
+    let table = KindTable::new(alloc, kinds)?;
+    assert!(rt; table.len() == 1);
+    let positions = table.positions(0);
+    let ended = positions.step(positions.first(), Label::new(0));
+    assert!(rt; positions.ends(ended) && !positions.goes_on(ended));
+    assert!(rt; positions.goes_on(positions.step(positions.first(), Label::new(1))));
+    Ok(())
+}
+
+#[test]
+fn a_copy_asks_the_same(rt: HostRuntime) -> Result<(), Fail> {
+    let query = Query {
+        start: scope(7),
+        kind: 3,
+        pred: Wanted::Is(5),
+    };
+    let copy = copy_query::<Numbers>(rt.alloc(), &query)?;
+    assert!(rt; copy.start == scope(7) && copy.kind == 3);
+    assert!(rt; Numbers::matches(&copy.pred, &5) && !Numbers::matches(&copy.pred, &6));
     Ok(())
 }
 

@@ -1,5 +1,7 @@
+pub mod Asking
 pub mod ExampleSteps
 pub mod Lists
+pub mod Puts
 pub mod Readings
 pub mod Sequences
 pub mod Steps

@@ -8,10 +8,10 @@ use Rattle.sg_reading.specs.Law.{ReadsOnlyItsQueries, NeedsOnlyItsQueries, Value
 use Rattle.sg_reading.specs.Reading.{Reading, done, ask, Gives, Asks, Needs, IsFunctional, AskedAlike, AllAsked, AllEnds}
 use Rattle.sg_reading.specs.Stop.{Replied, IsKnown}
 
-Contains-first : {X : Type 0} (x : X) (xs : List X) → Contains (x ∷ xs) x
+pub Contains-first : {X : Type 0} (x : X) (xs : List X) → Contains (x ∷ xs) x
 Contains-first x xs = (0, omega arith, refl)
 
-Contains-sole : {X : Type 0} (x y : X) → Contains (x ∷ []) y → x ≡ y
+pub Contains-sole : {X : Type 0} (x y : X) → Contains (x ∷ []) y → x ≡ y
 Contains-sole x y (zero, b, e) = e
 Contains-sole x y (suc k, b, e) = absurd (omega (arith, b))
 

@@ -1,8 +1,9 @@
 -- Laws of all rules: a rule looks at nothing but the answers to its own queries, and comes to one end.
-use Rattle.std.specs.Prelude.{◌≡◌, List, ◌++◌, Option, ◌⊎◌, ◌↔◌}
+use Rattle.std.specs.Prelude.{◌≡◌, List, [], ◌∷◌, ◌++◌, Option, None, Bool, ◌⊎◌, ◌↔◌, Decides}
 use Rattle.std.specs.List.{Contains}
 use Rattle.sg_reading.specs.declared.known.Known.{Known}
 use Rattle.sg_reading.specs.Reading.{Reading, Gives, Asks, Needs, IsFunctional, AnswersAlike, AskedAlike, and_then}
+use Rattle.sg_reading.specs.Replies.{reply_of, AddsReply}
 use Rattle.sg_reading.specs.Stop.{Replied, IsKnown}
 
 -- where the queries that the rule asks here are answered alike there, it has there the same value, after the same queries
@@ -54,3 +55,9 @@ abbrev pub AsksInTurn : {Q A : Type 0} → Type 0 → Type 0 → (Q → A → Ty
 AsksInTurn {Q} {A} U W R =
     (r : Reading Q A U) (f : U → Reading Q A W) (p : Q)
     → (Asks R (and_then r f) p) ↔ (Asks R r p ⊎ ((v : U) × (qs : List Q) × Gives R r v qs × Asks R (f v) p))
+
+-- where a test decides which queries are equal, a reply that is put last, to a query without one, is added, and no other reply changes
+abbrev pub LastRepliesAreAdded : {Q : Type 0} → Type 0 → (Q → Q → Bool) → Type 0
+LastRepliesAreAdded {Q} A same =
+    ((p q : Q) → Decides (same p q) (p ≡ q)) → (replies : List (Q × A)) (q : Q) (a : A)
+    → reply_of same replies q ≡ None → AddsReply (reply_of same replies) (reply_of same (replies ++ (q, a) ∷ [])) q a

@@ -12,6 +12,7 @@ ghost use Rattle.sg_reading.specs.Law.{
   KnownInOneWay,
   GivesInTurn,
   AsksInTurn,
+  LastRepliesAreAdded,
 };
 
 use crate::answers::Answers;
@@ -47,4 +48,9 @@ pub fn replies_decide_readings<Q, A, U>()
 pub fn readings_follow_one_another<U, W, R: Answers>()
     ensures value { GivesInTurn U W R.has_answer }
     ensures asked { AsksInTurn U W R.has_answer }
+{}
+
+/// A reply that is put last, to a query without one, is added, and no other reply changes.
+pub fn last_replies_are_added<Q: Eq, A>()
+    ensures { LastRepliesAreAdded A Q.eq }
 {}

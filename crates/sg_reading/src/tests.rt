@@ -30,3 +30,22 @@ fn the_places_of_each_block(rt: HostRuntime) -> Result<(), Fail> {
     }
     Ok(())
 }
+
+#[test]
+fn the_last_reply_is_taken_back(rt: HostRuntime) -> Result<(), Fail> {
+    let mut replies = Replies::new(rt.alloc());
+    assert!(rt; replies.take_back().is_none());
+    replies.put(Query { block: 3, name: 7 }, Answer::Undeclared)?;
+    replies.put(Query { block: 1, name: 7 }, Answer::Declared(5, true))?;
+    let taken = replies.take_back();
+    assert_eq!(rt;
+        taken.map(|(query, _)| query),
+        Some(Query { block: 1, name: 7 })
+    );
+    let query = Query { block: 1, name: 7 };
+    assert_eq!(rt; member(&replies, &[3, 1], 7, 9), Err(Stop::NoReply(query)));
+    replies.put(query, Answer::Declared(6, true))?;
+    let query = Query { block: 6, name: 9 };
+    assert_eq!(rt; member(&replies, &[3, 1], 7, 9), Err(Stop::NoReply(query)));
+    Ok(())
+}

@@ -4,8 +4,8 @@ use Rattle.std.specs.List.{Contains}
 use Rattle.sg_base.specs.declared.scope.Scope.{Scope}
 use Rattle.sg_base.specs.Graph.{GraphOf}
 use Rattle.sg_base.proofs.Finite.{nothing_in, single, Contains-head, Contains-tail, Contains-cons}
-use Rattle.sg_query.specs.declared.kind.Kind.{Kind}
 use Rattle.sg_query.specs.declared.query.Query.{Query}
+use Rattle.sg_query.specs.Query.{KindOf}
 use Rattle.sg_state.specs.Held.{HeldOf, RowHold, HoldsRow}
 use Rattle.sg_unit.specs.declared.op.Op.{Op}
 use Rattle.sg_unit.specs.declared.op.Op.TheVariants.{Fresh, AddEdge, SetDatum, CloseRow, Ask, Advance, Take, End}
@@ -13,10 +13,10 @@ use Rattle.sg_unit.specs.declared.reply.Reply.{Reply}
 use Rattle.sg_unit.specs.Honest.{Gave, GivesResults}
 use Rattle.sg_unit.specs.Run.{Setting}
 use Rattle.sg_unit.specs.Trace.{Past, with_last, MayGive, IsHanded}
+use Rattle.sg_unit.specs.Served.{IsNew, AreNew}
 use Rattle.sg_unit.specs.Unit.{setting_of, CanBeHanded, GoesOn, GivesOwed}
 use Rattle.sg_core.specs.Core.{CoreOf}
 use Rattle.sg_serial.specs.Example.{first, second, crossed, number_of, own_scope, other_scope, across, worker_op, GaveSo, fixed_part, WorkerStands, IsWorkersEdge, IsWorkersQuery}
-use Rattle.sg_serial.specs.Serial.{IsNew, AreNew}
 
 -- what holds at these holds at what equals them
 at : {X Y : Type 0} (C : X → Y → Type 0) (a : X) (b : Y) → C a b → (x : X) (y : Y) → x ≡ a → y ≡ b → C x y
@@ -32,10 +32,10 @@ has_other : (b : Bool) → Contains (first ∷ second ∷ []) (other_scope b)
 has_other false = Contains-tail first second (second ∷ []) (Contains-head second [])
 has_other true = Contains-head first (second ∷ [])
 
-abbrev crossed_setting : {D P : Type 0} → (P → D → Bool) → (D → D → Bool) → List Kind → Setting D P
+abbrev crossed_setting : {D P : Type 0} → (P → D → Bool) → (D → D → Bool) → List KindOf → Setting D P
 crossed_setting wants same ks = setting_of wants same crossed ks
 
-module _ (I R D P : Type 0) (wants : P → D → Bool) (same : D → D → Bool) (ks : List Kind) (p : P) (x : R) where
+module _ (I R D P : Type 0) (wants : P → D → Bool) (same : D → D → Bool) (ks : List KindOf) (p : P) (x : R) where
   abbrev op_at : Bool → Bool → ℕ → Op I R D P
   op_at b a n = worker_op b a p x n
 
@@ -193,35 +193,35 @@ module _ (I R D P : Type 0) (wants : P → D → Bool) (same : D → D → Bool)
   owes_so b a n o last e = subst (λ (v : Op I R D P). GivesOwed (crossed_setting wants same ks) (number_of b) (λ g. IsWorkersEdge b a) (λ g s d. ⊥) (λ g q. IsWorkersQuery b a p q) (λ g y. y ≡ x) (WorkerStands ks b a p x n) last v) (sym e) (worker_owes b a n last)
 
 -- a new unit
-stands_new : (I R D P : Type 0) (ks : List Kind) (p : P) (x : R) (b a : Bool) (n : ℕ) → n ≡ 0 → 0 < length ks → WorkerStands {I = I} {R = R} {D = D} ks b a p x n [] None
+stands_new : (I R D P : Type 0) (ks : List KindOf) (p : P) (x : R) (b a : Bool) (n : ℕ) → n ≡ 0 → 0 < length ks → WorkerStands {I = I} {R = R} {D = D} ks b a p x n [] None
 stands_new I R D P ks p x b a n e few = subst (λ (k : ℕ). WorkerStands {I = I} {R = R} {D = D} ks b a p x k [] None) (sym e) (few, (refl, refl))
 
 -- two units that are new
-pub two_new : {I R D P V F : Type 0} (number : V → ℕ) (fixed : V → F) (opening : F → HeldOf D) (kinds : F → List Kind) (stands : V → Past I R D P → Option (Op I R D P) → Type 0) (c : CoreOf I R D P) (v w : V)
-    → length c.opening.made ≡ 2 → IsNew number fixed opening kinds stands c 0 v → IsNew number fixed opening kinds stands c 1 w → AreNew number fixed opening kinds stands c (v ∷ w ∷ [])
-two_new {I} {R} {D} {P} {V} {F} number fixed opening kinds stands c v w two a b = (sym two, each)
+pub two_new : {I R D P V F : Type 0} (number : V → ℕ) (fixed : V → F) (opening : F → HeldOf D) (kinds : F → List KindOf) (stands : V → Past I R D P → Option (Op I R D P) → Type 0) (h : HeldOf D) (t : List KindOf) (v w : V)
+    → length h.made ≡ 2 → IsNew number fixed opening kinds stands h t 0 v → IsNew number fixed opening kinds stands h t 1 w → AreNew number fixed opening kinds stands h t (v ∷ w ∷ [])
+two_new {I} {R} {D} {P} {V} {F} number fixed opening kinds stands h t v w two a b = (sym two, each)
   where
-    each : (u : ℕ) (x : V) → slice_get (v ∷ w ∷ []) u ≡ Some x → IsNew number fixed opening kinds stands c u x
-    each zero x e = subst (IsNew number fixed opening kinds stands c 0) (some_is v x e) a
+    each : (u : ℕ) (x : V) → slice_get (v ∷ w ∷ []) u ≡ Some x → IsNew number fixed opening kinds stands h t u x
+    each zero x e = subst (IsNew number fixed opening kinds stands h t 0) (some_is v x e) a
       where
         some_is : (s t : V) → Some s ≡ Some t → s ≡ t
         some_is s t k = cc
-    each (suc zero) x e = subst (IsNew number fixed opening kinds stands c 1) (some_is w x e) b
+    each (suc zero) x e = subst (IsNew number fixed opening kinds stands h t 1) (some_is w x e) b
       where
         some_is : (s t : V) → Some s ≡ Some t → s ≡ t
         some_is s t k = cc
     each (suc (suc n)) x e = absurd (cc)
 
 -- both units are new on a core at its opening
-pub both_new : {I R D P V : Type 0} (second asks : V → Bool) (given : V → ℕ) (ks : V → List Kind) (p : P) (x : R) (c : CoreOf I R D P) (v w : V) (vs : List V) (h : HeldOf D) (t : List Kind)
+pub both_new : {I R D P V : Type 0} (second asks : V → Bool) (given : V → ℕ) (ks : V → List KindOf) (p : P) (x : R) (c : CoreOf I R D P) (v w : V) (vs : List V) (h : HeldOf D) (t : List KindOf)
     → c ≡ record { opening = h; kinds = t; log = [] } → h ≡ crossed → length t ≡ 1 → vs ≡ v ∷ w ∷ [] → second v ≡ false → given v ≡ 0 → ks v ≡ t → second w ≡ true → given w ≡ 0 → ks w ≡ t
-    → AreNew (λ u. number_of (second u)) (λ u. fixed_part (second u) (asks u) (ks u)) (λ f. crossed) (λ f. f.2) (λ u. WorkerStands (ks u) (second u) (asks u) p x (given u)) c vs
+    → AreNew {I = I} {R = R} {D = D} {P = P} (λ u. number_of (second u)) (λ u. fixed_part (second u) (asks u) (ks u)) (λ f. crossed) (λ f. f.2) (λ u. WorkerStands (ks u) (second u) (asks u) p x (given u)) c.opening c.kinds vs
 both_new {I} {R} {D} {P} {V} second asks given ks p x c v w vs h t core begun one list sv gv kv sw gw kw =
     let opening : c.opening ≡ crossed = ap (λ (y : CoreOf I R D P). y.opening) core ∙ begun in
     let kinds : c.kinds ≡ t = ap (λ (y : CoreOf I R D P). y.kinds) core in
-    let few : (u : V) → ks u ≡ t → 0 < length (ks u) = λ u k. subst (λ (l : List Kind). 0 < length l) (sym k) (omega (arith, one)) in
-    subst (λ (l : List V). AreNew (λ u. number_of (second u)) (λ u. fixed_part (second u) (asks u) (ks u)) (λ f. crossed) (λ f. f.2) (λ u. WorkerStands (ks u) (second u) (asks u) p x (given u)) c l) (sym list)
-    (two_new (λ u. number_of (second u)) (λ u. fixed_part (second u) (asks u) (ks u)) (λ f. crossed) (λ f. f.2) (λ u. WorkerStands (ks u) (second u) (asks u) p x (given u)) c v w
+    let few : (u : V) → ks u ≡ t → 0 < length (ks u) = λ u k. subst (λ (l : List KindOf). 0 < length l) (sym k) (omega (arith, one)) in
+    subst (λ (l : List V). AreNew {I = I} {R = R} {D = D} {P = P} (λ u. number_of (second u)) (λ u. fixed_part (second u) (asks u) (ks u)) (λ f. crossed) (λ f. f.2) (λ u. WorkerStands (ks u) (second u) (asks u) p x (given u)) c.opening c.kinds l) (sym list)
+    (two_new {I = I} {R = R} {D = D} {P = P} (λ u. number_of (second u)) (λ u. fixed_part (second u) (asks u) (ks u)) (λ f. crossed) (λ f. f.2) (λ u. WorkerStands (ks u) (second u) (asks u) p x (given u)) c.opening c.kinds v w
     (ap (λ (y : HeldOf D). length y.made) opening)
     (ap number_of sv, sym opening, kv ∙ sym kinds, stands_new I R D P (ks v) p x (second v) (asks v) (given v) gv (few v kv))
     (ap number_of sw, sym opening, kw ∙ sym kinds, stands_new I R D P (ks w) p x (second w) (asks w) (given w) gw (few w kw)))

@@ -1,7 +1,7 @@
 -- Which unit steps when: choices and least units, one entry after another.
 use Rattle.std.proofs.Common.{◌≡◌, ℕ, List, [], ◌∷◌, ◌++◌, Bool, inl, inr, refl, sym, ap, ◌∙◌, subst, append_assoc}
 use Rattle.std.proofs.lemmas.List.{append-nil}
-use Rattle.sg_query.specs.declared.kind.Kind.{Kind}
+use Rattle.sg_query.specs.Query.{KindOf}
 use Rattle.sg_state.specs.Held.{HeldOf}
 use Rattle.sg_unit.specs.declared.entry.Entry.{Entry}
 use Rattle.sg_unit.specs.Run.{RunOf, opened, after, run_from}
@@ -68,7 +68,7 @@ module _ {I R D P : Type 0} (wants : P → D → Bool) (same : D → D → Bool)
   run_more : (c d : CoreOf I R D P) (more : List (Entry I R D P)) → GoesOnFrom c d → d.log ≡ c.log ++ more → run wants same d ≡ run_from (run wants same c) more
   run_more c d more goes gained =
       ap (λ (o : HeldOf D). run_from (opened (setting_of wants same o d.kinds)) d.log) goes.0
-      ∙ ap (λ (ks : List Kind). run_from (opened (setting_of wants same c.opening ks)) d.log) goes.1
+      ∙ ap (λ (ks : List KindOf). run_from (opened (setting_of wants same c.opening ks)) d.log) goes.1
       ∙ ap (λ (l : List (Entry I R D P)). run_from (opened (setting wants same c)) l) gained
       ∙ run_append (opened (setting wants same c)) c.log more
 

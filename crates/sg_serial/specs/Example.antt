@@ -1,8 +1,8 @@
 -- Small units of two, each of which holds a row, and may ask along the row of the other.
 use Rattle.std.specs.Prelude.{◌≡◌, ℕ, zero, suc, ◌<◌, List, [], ◌∷◌, Bool, true, false, Option, Some, None, length}
 use Rattle.sg_base.specs.declared.scope.Scope.{Scope}
-use Rattle.sg_query.specs.declared.kind.Kind.{Kind}
 use Rattle.sg_query.specs.declared.query.Query.{Query}
+use Rattle.sg_query.specs.Query.{KindOf}
 use Rattle.sg_state.specs.Held.{HeldOf}
 use Rattle.sg_state.specs.Opening.{nobody}
 use Rattle.sg_unit.specs.declared.op.Op.{Op}
@@ -24,6 +24,7 @@ crossed = record {
   row_holds = (record { scope = first; label = 0; unit = 0 }) ∷ (record { scope = second; label = 0; unit = 1 }) ∷ [];
   datum_holds = [];
   made = 0 ∷ 0 ∷ [];
+  rest = [];
 }
 
 -- the number of a unit, by whether it is the second
@@ -63,11 +64,11 @@ GaveSo {I} {R} {D} {P} b a p x (suc (suc (suc n))) past given =
     (y : Reply I D P) × (w : Reply I D P) × (past ≡ (worker_op b a p x 0, y) ∷ (worker_op b a p x 1, w) ∷ []) × (given ≡ Some (worker_op b a p x 2))
 
 -- the unit stands for these traces, where the table has a kind
-abbrev pub WorkerStands : {I R D P : Type 0} → List Kind → Bool → Bool → P → R → ℕ → Past I R D P → Option (Op I R D P) → Type 0
+abbrev pub WorkerStands : {I R D P : Type 0} → List KindOf → Bool → Bool → P → R → ℕ → Past I R D P → Option (Op I R D P) → Type 0
 WorkerStands ks b a p x n past given = (0 < length ks) × GaveSo b a p x n past given
 
 -- what stays of a unit: whether it is the second, whether it asks, and its table
-abbrev pub fixed_part : Bool → Bool → List Kind → Bool × Bool × List Kind
+abbrev pub fixed_part : Bool → Bool → List KindOf → Bool × Bool × List KindOf
 fixed_part b a ks = (b, a, ks)
 
 -- the edge that a unit owes, which does not ask

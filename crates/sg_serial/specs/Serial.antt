@@ -1,40 +1,42 @@
 -- Units that are served one at a time.
-use Rattle.std.specs.Prelude.{◌≡◌, ℕ, zero, suc, ◌+◌, List, [], ◌∷◌, ◌++◌, Bool, true, false, Option, Some, None, ◌⊎◌, length, slice_get}
-use Rattle.sg_query.specs.declared.kind.Kind.{Kind}
+use Rattle.std.specs.Prelude.{◌≡◌, ℕ, zero, suc, ◌+◌, List, [], ◌∷◌, ◌++◌, Bool, Option, Some, ◌⊎◌, length, slice_get}
+use Rattle.sg_base.specs.declared.scope.Scope.{Scope}
+use Rattle.sg_base.specs.Graph.{GraphOf}
+use Rattle.sg_query.specs.declared.query.Query.{Query}
+use Rattle.sg_query.specs.Query.{KindOf}
 use Rattle.sg_state.specs.Held.{HeldOf}
 use Rattle.sg_unit.specs.declared.entry.Entry.{Entry}
 use Rattle.sg_unit.specs.declared.op.Op.{Op}
-use Rattle.sg_unit.specs.declared.op.Op.TheVariants.{Fresh, AddEdge, SetDatum, CloseRow, Ask, Advance, Take, End}
 use Rattle.sg_unit.specs.declared.reply.Reply.{Reply}
 use Rattle.sg_unit.specs.Bound.{weight}
 use Rattle.sg_unit.specs.Own.{own}
 use Rattle.sg_unit.specs.Run.{Setting, RunOf, after, run_from}
-use Rattle.sg_unit.specs.Trace.{Past, told}
+use Rattle.sg_unit.specs.Served.{SomeStands, IsHonestBy, IsServed}
+use Rattle.sg_unit.specs.Trace.{Past}
 use Rattle.sg_core.specs.declared.phase.Phase.TheVariants.{Ended, Stuck}
 use Rattle.sg_core.specs.Core.{CoreOf, IsCore, IsRunnable, IsLeastRunnable, IsPhase, setting, run}
 
--- the unit has given nothing, and has this number, opening and kinds
-abbrev pub IsNew : {I R D P V F : Type 0} → (V → ℕ) → (V → F) → (F → HeldOf D) → (F → List Kind) → (V → Past I R D P → Option (Op I R D P) → Type 0) → CoreOf I R D P → ℕ → V → Type 0
-IsNew number fixed opening kinds stands c u v =
-    (number v ≡ u) × (opening (fixed v) ≡ c.opening) × (kinds (fixed v) ≡ c.kinds) × stands v [] None
+-- units whose fixed parts have these openings and kinds, and owe these edges, data, queries and results in each graph, and which have these
+-- numbers and fixed parts and stand for these traces
+module _ {I R D P V F : Type 0} (wants : P → D → Bool) (same : D → D → Bool) (opening_at : F → HeldOf D) (kinds_at : F → List KindOf) (edges : F → GraphOf D → Scope → ℕ → Scope → Type 0) (data_at : F → GraphOf D → Scope → D → Type 0) (asks : F → GraphOf D → Query P → Type 0) (result : F → GraphOf D → R → Type 0)
+    (number : V → ℕ) (fixed : V → F) (stands : V → Past I R D P → Option (Op I R D P) → Type 0) where
+  -- the core's run is over: it goes on from the opening and the kinds of the old core, is legal, and has ended or is stuck; and for each unit that
+  -- was given, some unit with its number and its fixed part stands for its entries, by which it is honest
+  pub record HasRun (old : CoreOf I R D P) (units : List V) (c : CoreOf I R D P) : Type 0 where
+    pub opening : c.opening ≡ old.opening
+    pub kinds : c.kinds ≡ old.kinds
+    pub core : IsCore wants same c
+    pub over : IsPhase (run wants same c) Ended ⊎ IsPhase (run wants same c) Stuck
+    pub each : (u : ℕ) (w : V) → slice_get units u ≡ Some w → SomeStands number fixed stands (own u c.log) u (fixed w)
+    pub honest : (u : ℕ) (w : V) → slice_get units u ≡ Some w → IsHonestBy wants same opening_at kinds_at edges data_at asks result (own u c.log) u (fixed w)
 
--- one new unit for each number
-abbrev pub AreNew : {I R D P V F : Type 0} → (V → ℕ) → (V → F) → (F → HeldOf D) → (F → List Kind) → (V → Past I R D P → Option (Op I R D P) → Type 0) → CoreOf I R D P → List V → Type 0
-AreNew {V = V} number fixed opening kinds stands c units =
-    (length units ≡ length c.opening.made) × ((u : ℕ) (v : V) → slice_get units u ≡ Some v → IsNew number fixed opening kinds stands c u v)
-
--- some unit with this number and this fixed part stands for the unit's entries in the log
-abbrev pub SomeStands : {I R D P V F : Type 0} → (V → ℕ) → (V → F) → (V → Past I R D P → Option (Op I R D P) → Type 0) → List (Entry I R D P) → ℕ → F → Type 0
-SomeStands {V = V} number fixed stands log u f = (v : V) × (number v ≡ u) × (fixed v ≡ f) × stands v (told (own u log)).past (told (own u log)).last
-
--- the core's run is over: it goes on from the opening and the kinds of the old core, is legal, and has ended or is stuck; and for each unit that was
--- given, some unit with its number and its fixed part stands for its entries
-pub record HasRun {I R D P V F : Type 0} (wants : P → D → Bool) (same : D → D → Bool) (number : V → ℕ) (fixed : V → F) (stands : V → Past I R D P → Option (Op I R D P) → Type 0) (old : CoreOf I R D P) (units : List V) (c : CoreOf I R D P) : Type 0 where
-  pub opening : c.opening ≡ old.opening
-  pub kinds : c.kinds ≡ old.kinds
-  pub core : IsCore wants same c
-  pub over : IsPhase (run wants same c) Ended ⊎ IsPhase (run wants same c) Stuck
-  pub each : (u : ℕ) (w : V) → slice_get units u ≡ Some w → SomeStands number fixed stands c.log u (fixed w)
+  -- while it runs, each unit of the list is one that was given, and is served
+  pub record IsTeam (start units : List V) (replies : List (Option (Reply I D P))) (c : CoreOf I R D P) : Type 0 where
+    pub started : length start ≡ length c.opening.made
+    pub counted : length units ≡ length c.opening.made
+    pub handed : length replies ≡ length c.opening.made
+    pub named : (u : ℕ) (w : V) → slice_get start u ≡ Some w → (opening_at (fixed w) ≡ c.opening) × (kinds_at (fixed w) ≡ c.kinds)
+    pub each : (u : ℕ) (w v : V) (y : Option (Reply I D P)) → slice_get start u ≡ Some w → slice_get units u ≡ Some v → slice_get replies u ≡ Some y → IsServed wants same opening_at kinds_at edges data_at asks result number fixed stands (own u c.log) u (fixed w) v y
 
 -- ---- which unit steps when
 
@@ -70,32 +72,6 @@ StepsIfRunnable wants same old new u =
 abbrev pub AddsLeastFirst : {I R D P : Type 0} → (P → D → Bool) → (D → D → Bool) → CoreOf I R D P → CoreOf I R D P → Type 0
 AddsLeastFirst {I} {R} {D} {P} wants same old new =
     (more : List (Entry I R D P)) × (new.log ≡ old.log ++ more) × AreLeastFirst (run wants same old) more
-
--- whether an operation is an ask
-abbrev pub is_ask : {I R D P : Type 0} → Op I R D P → Bool
-is_ask (Fresh labels datum) = false
-is_ask (AddEdge from label to) = false
-is_ask (SetDatum s d) = false
-is_ask (CloseRow s l) = false
-is_ask (Ask q) = true
-is_ask Advance = false
-is_ask Take = false
-is_ask (End x) = false
-
--- the unit stands for its entries, and this reply waits to be handed to it
-pub record IsServed {I R D P V F : Type 0} (number : V → ℕ) (fixed : V → F) (stands : V → Past I R D P → Option (Op I R D P) → Type 0) (log : List (Entry I R D P)) (u : ℕ) (f : F) (v : V) (y : Option (Reply I D P)) : Type 0 where
-  pub numbered : number v ≡ u
-  pub fixed_part : fixed v ≡ f
-  pub stood : stands v (told (own u log)).past (told (own u log)).last
-  pub waiting : y ≡ (told (own u log)).reply
-
--- each unit of the list is one that was given, and is served
-pub record IsTeam {I R D P V F : Type 0} (number : V → ℕ) (fixed : V → F) (opening : F → HeldOf D) (kinds : F → List Kind) (stands : V → Past I R D P → Option (Op I R D P) → Type 0) (start units : List V) (replies : List (Option (Reply I D P))) (c : CoreOf I R D P) : Type 0 where
-  pub started : length start ≡ length c.opening.made
-  pub counted : length units ≡ length c.opening.made
-  pub handed : length replies ≡ length c.opening.made
-  pub named : (u : ℕ) (w : V) → slice_get start u ≡ Some w → (opening (fixed w) ≡ c.opening) × (kinds (fixed w) ≡ c.kinds)
-  pub each : (u : ℕ) (w v : V) (y : Option (Reply I D P)) → slice_get start u ≡ Some w → slice_get units u ≡ Some v → slice_get replies u ≡ Some y → IsServed number fixed stands c.log u (fixed w) v y
 
 -- the sum of a measure over a list
 abbrev pub sum_of : {V : Type 0} → (V → ℕ) → List V → ℕ

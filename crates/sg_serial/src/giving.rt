@@ -1,30 +1,14 @@
 //! A unit's next operation.
 
-ghost use Rattle.std.specs.Prelude.{◌≡◌, ◌<◌, List, IfOk};
+ghost use Rattle.std.specs.Prelude.{◌<◌, List, IfOk};
 ghost use Rattle.sg_core.specs.Core.{IsCore, IsRunnable, run};
-ghost use Rattle.sg_serial.specs.Serial.{is_ask, IsTeam, GoesOnFrom, AddsEntryOf, sum_of};
+ghost use Rattle.sg_serial.specs.Serial.{IsTeam, GoesOnFrom, AddsEntryOf, sum_of};
 ghost use Rattle.sg_unit.specs.Run.{NoAsk};
 
 use sg_base::Instance;
 use sg_core::Core;
-use sg_unit::{Op, Reply, Unit};
+use sg_unit::{Reply, Unit};
 use std::alloc::AllocError;
-
-/// Whether an operation is an ask.
-fn is_ask<I: Instance, R>(op: &Op<I, R>) -> bool
-    ensures { result ≡ is_ask op.now }
-{
-    match op {
-        Op::Fresh { .. } => false,
-        Op::AddEdge { .. } => false,
-        Op::SetDatum { .. } => false,
-        Op::CloseRow { .. } => false,
-        Op::Ask(_) => true,
-        Op::Advance => false,
-        Op::Take => false,
-        Op::End(_) => false,
-    }
-}
 
 /// Hands a unit that asks nothing the reply that waits for it, and applies what it gives next.
 pub fn give<U: Unit>(
@@ -36,15 +20,15 @@ pub fn give<U: Unit>(
     requires core { IsCore U.Inst.wants U.Inst.same_datum core.old }
     requires runs { IsRunnable (run U.Inst.wants U.Inst.same_datum core.old) unit }
     requires idle { NoAsk (run U.Inst.wants U.Inst.same_datum core.old) unit }
-    requires team { (start : List U) × IsTeam U.number U.fixed U.opening U.kinds U.stands start units.old.items replies.old.items core.old }
-    ensures team { (start : List U) → IsTeam U.number U.fixed U.opening U.kinds U.stands start units.old.items replies.old.items core.old → IfOk result (λ _. IsTeam U.number U.fixed U.opening U.kinds U.stands start units.new.items replies.new.items core.new) }
+    requires team { (start : List U) × IsTeam U.Inst.wants U.Inst.same_datum U.opening U.kinds U.owes_edge U.owes_datum U.may_ask U.comes_to U.number U.fixed U.stands start units.old.items replies.old.items core.old }
+    ensures team { (start : List U) → IsTeam U.Inst.wants U.Inst.same_datum U.opening U.kinds U.owes_edge U.owes_datum U.may_ask U.comes_to U.number U.fixed U.stands start units.old.items replies.old.items core.old → IfOk result (λ _. IsTeam U.Inst.wants U.Inst.same_datum U.opening U.kinds U.owes_edge U.owes_datum U.may_ask U.comes_to U.number U.fixed U.stands start units.new.items replies.new.items core.new) }
     ensures core { IfOk result (λ _. IsCore U.Inst.wants U.Inst.same_datum core.new × GoesOnFrom core.old core.new) }
     ensures adds { IfOk result (λ _. AddsEntryOf core.old core.new unit) }
     ensures falls { IfOk result (λ _. sum_of U.measure units.new.items < sum_of U.measure units.old.items) }
 {
     let last = replies[unit as usize].take();
     let op = units[unit as usize].next(last)?;
-    let asks = is_ask(&op);
+    let asks = op.is_ask();
     let reply = core.apply(unit, op)?;
     if !asks {
         replies[unit as usize] = Some(reply);

@@ -17,8 +17,8 @@ pub fn push<U: Unit>(
 ) -> Result<bool, AllocError>
     requires core { IsCore U.Inst.wants U.Inst.same_datum core.old }
     requires runs { IsRunnable (run U.Inst.wants U.Inst.same_datum core.old) unit }
-    requires team { (start units : List U) × IsTeam U.number U.fixed U.opening U.kinds U.stands start units replies.old.items core.old }
-    ensures team { (start units : List U) → IsTeam U.number U.fixed U.opening U.kinds U.stands start units replies.old.items core.old → IfOk result (λ _. IsTeam U.number U.fixed U.opening U.kinds U.stands start units replies.new.items core.new) }
+    requires team { (start units : List U) × IsTeam U.Inst.wants U.Inst.same_datum U.opening U.kinds U.owes_edge U.owes_datum U.may_ask U.comes_to U.number U.fixed U.stands start units replies.old.items core.old }
+    ensures team { (start units : List U) → IsTeam U.Inst.wants U.Inst.same_datum U.opening U.kinds U.owes_edge U.owes_datum U.may_ask U.comes_to U.number U.fixed U.stands start units replies.old.items core.old → IfOk result (λ _. IsTeam U.Inst.wants U.Inst.same_datum U.opening U.kinds U.owes_edge U.owes_datum U.may_ask U.comes_to U.number U.fixed U.stands start units replies.new.items core.new) }
     ensures core { IfOk result (λ _. IsCore U.Inst.wants U.Inst.same_datum core.new × GoesOnFrom core.old core.new) }
     ensures adds { IfOk result (λ b. IsTrue b → AddsEntryOf core.old core.new unit) }
     ensures falls { IfOk result (λ b. IsTrue b → asks_left U.Inst.wants U.Inst.same_datum core.new < asks_left U.Inst.wants U.Inst.same_datum core.old) }
@@ -45,8 +45,8 @@ pub fn settle<U: Unit>(
     replies: &mut Vec<Option<Reply<U::Inst>>>,
 ) -> Result<Option<u32>, AllocError>
     requires core { IsCore U.Inst.wants U.Inst.same_datum core.old }
-    requires team { (start units : List U) × IsTeam U.number U.fixed U.opening U.kinds U.stands start units replies.old.items core.old }
-    ensures team { (start units : List U) → IsTeam U.number U.fixed U.opening U.kinds U.stands start units replies.old.items core.old → IfOk result (λ _. IsTeam U.number U.fixed U.opening U.kinds U.stands start units replies.new.items core.new) }
+    requires team { (start units : List U) × IsTeam U.Inst.wants U.Inst.same_datum U.opening U.kinds U.owes_edge U.owes_datum U.may_ask U.comes_to U.number U.fixed U.stands start units replies.old.items core.old }
+    ensures team { (start units : List U) → IsTeam U.Inst.wants U.Inst.same_datum U.opening U.kinds U.owes_edge U.owes_datum U.may_ask U.comes_to U.number U.fixed U.stands start units replies.old.items core.old → IfOk result (λ _. IsTeam U.Inst.wants U.Inst.same_datum U.opening U.kinds U.owes_edge U.owes_datum U.may_ask U.comes_to U.number U.fixed U.stands start units replies.new.items core.new) }
     ensures core { IfOk result (λ _. IsCore U.Inst.wants U.Inst.same_datum core.new × GoesOnFrom core.old core.new) }
     ensures adds { IfOk result (λ _. AddsLeastFirst U.Inst.wants U.Inst.same_datum core.old core.new) }
     ensures least { IfOk result (λ o. MatchOption o ((u : ℕ) → IsRunnable (run U.Inst.wants U.Inst.same_datum core.new) u → ⊥) (λ u. IsLeastRunnable (run U.Inst.wants U.Inst.same_datum core.new) u × NoAsk (run U.Inst.wants U.Inst.same_datum core.new) u)) }

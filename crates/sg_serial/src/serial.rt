@@ -1,7 +1,8 @@
 ghost use Rattle.std.specs.Prelude.{◌≡◌, [], List, IfOk};
 ghost use Rattle.sg_core.specs.Core.{IsCore, run};
-ghost use Rattle.sg_serial.specs.Serial.{AreNew, HasRun, IsTeam, GoesOnFrom, IsServedBy, StepsIfRunnable};
+ghost use Rattle.sg_serial.specs.Serial.{HasRun, IsTeam, GoesOnFrom, IsServedBy, StepsIfRunnable};
 ghost use Rattle.sg_serial.specs.Replies.{AreNone};
+ghost use Rattle.sg_unit.specs.Served.{AreNew};
 
 use crate::giving::give;
 use crate::pushing::{push, settle};
@@ -32,8 +33,8 @@ fn step<U: Unit>(
     unit: u32,
 ) -> Result<(), AllocError>
     requires core { IsCore U.Inst.wants U.Inst.same_datum core.old }
-    requires team { (start : List U) × IsTeam U.number U.fixed U.opening U.kinds U.stands start units.old.items replies.old.items core.old }
-    ensures team { (start : List U) → IsTeam U.number U.fixed U.opening U.kinds U.stands start units.old.items replies.old.items core.old → IfOk result (λ _. IsTeam U.number U.fixed U.opening U.kinds U.stands start units.new.items replies.new.items core.new) }
+    requires team { (start : List U) × IsTeam U.Inst.wants U.Inst.same_datum U.opening U.kinds U.owes_edge U.owes_datum U.may_ask U.comes_to U.number U.fixed U.stands start units.old.items replies.old.items core.old }
+    ensures team { (start : List U) → IsTeam U.Inst.wants U.Inst.same_datum U.opening U.kinds U.owes_edge U.owes_datum U.may_ask U.comes_to U.number U.fixed U.stands start units.old.items replies.old.items core.old → IfOk result (λ _. IsTeam U.Inst.wants U.Inst.same_datum U.opening U.kinds U.owes_edge U.owes_datum U.may_ask U.comes_to U.number U.fixed U.stands start units.new.items replies.new.items core.new) }
     ensures core { IfOk result (λ _. IsCore U.Inst.wants U.Inst.same_datum core.new × GoesOnFrom core.old core.new) }
     ensures steps { IfOk result (λ _. StepsIfRunnable U.Inst.wants U.Inst.same_datum core.old core.new unit) }
 {
@@ -50,8 +51,8 @@ fn step<U: Unit>(
 /// them can go on. First each number in `order` makes one step of that unit, and is passed by where the unit has ended or
 /// waits, or where no unit has it. Then the least unit that runs steps, as long as there is one.
 ///
-/// The core that is answered has ended or is stuck: no unit is live, or some are and each of them waits. Want of memory may be
-/// met at any step; the core and the units are gone then.
+/// The core that is answered has ended or is stuck: no unit is live, or some are and each of them waits. Each unit is honest by
+/// its entries. Want of memory may be met at any step; the core and the units are gone then.
 ///
 /// Each step adds one entry to the log, and costs what the core's operation and the unit's `next` cost, and past `order` a
 /// search for the least unit that runs (`Core::least_runnable`). A number that is passed by costs a look-up.
@@ -62,8 +63,8 @@ pub fn run_serial<U: Unit>(
     order: &[u32],
 ) -> Result<Core<U::Inst, U::Outcome>, AllocError>
     requires opening { core.log ≡ [] }
-    requires new { AreNew U.number U.fixed U.opening U.kinds U.stands core units.items }
-    ensures ran { IfOk result (HasRun U.Inst.wants U.Inst.same_datum U.number U.fixed U.stands core units.items) }
+    requires new { AreNew U.number U.fixed U.opening U.kinds U.stands core.opening core.kinds units.items }
+    ensures ran { IfOk result (HasRun U.Inst.wants U.Inst.same_datum U.opening U.kinds U.owes_edge U.owes_datum U.may_ask U.comes_to U.number U.fixed U.stands core units.items) }
     ensures served { IfOk result (λ c. IsServedBy (run U.Inst.wants U.Inst.same_datum core) order.now c.log) }
 {
     let mut core = core;

@@ -69,6 +69,8 @@ impl Instance for Numbers {
       transitive = λ a b c h k. Prim.grind (arith, nat_tests);
     } };
 
+    ghost one_key = { λ a b h. Prim.grind (arith, nat_tests) };
+
     ghost keyed = { λ p d k e t. Prim.grind (arith, nat_tests) };
 }
 
@@ -149,7 +151,7 @@ fn one_more(given: u8) -> u8
 
 impl Unit for Worker {
     ghost use Rattle.std.specs.Prelude.{◌≡◌, ◌-◌, Bool, List};
-    ghost use Rattle.sg_query.specs.declared.kind.Kind.{Kind as KindOf};
+    ghost use Rattle.sg_query.specs.Query.{KindOf};
     ghost use Rattle.sg_serial.specs.Example.{crossed, number_of, fixed_part, WorkerStands, IsWorkersEdge, IsWorkersQuery};
 
     type Inst = Numbers;
@@ -225,7 +227,8 @@ fn one_step(alloc: Global) -> Result<Option<KindTable>, AllocError>
     }
     let mut kinds = Vec::new(alloc);
     kinds.push(Kind { expr, order })?;
-    Ok(Some(KindTable::new(kinds)))
+    let table = KindTable::new(alloc, kinds)?;
+    Ok(Some(table))
 }
 
 /// Two scopes, of which each unit holds one's row with label 0.

@@ -1,8 +1,9 @@
 -- The scopes of an opening, once they have what the opening lists, are its held graph.
-use Rattle.std.proofs.Common.{◌≡◌, ℕ, ◌<◌, List, [], ◌∷◌, ◌⊎◌, ◌↔◌, inl, inr, refl, sym, ap, ◌∙◌, subst, map, length, replicate, arith}
+use Rattle.std.proofs.Common.{◌≡◌, ℕ, ◌<◌, List, [], ◌∷◌, ◌⊎◌, ◌↔◌, true, not, inl, inr, refl, sym, ap, ◌∙◌, subst, map, length, replicate, arith}
+use Rattle.std.proofs.lemmas.Bool.{cases_Bool}
 use Rattle.std.proofs.lemmas.List.{length-replicate}
 use Rattle.std.specs.Cmp.{on_total}
-use Rattle.std.specs.List.{Contains, flat_map}
+use Rattle.std.specs.List.{Contains, filter, flat_map}
 use Rattle.std.specs.Ordering.{nat_cmp, on}
 use Rattle.sg_base.specs.declared.scope.Scope.{Scope}
 use Rattle.sg_base.specs.Graph.{Edge, edge_cmp, edge_total}
@@ -11,15 +12,19 @@ use Rattle.sg_base.specs.Scope.{scope_cmp, scope_total}
 use Rattle.sg_base.proofs.Finite.{nothing_in, Distinct-left, map-Contains}
 use Rattle.sg_base.proofs.Rising.{rising_one}
 use Rattle.sg_base.proofs.Scopes.{equal_scope}
+use Rattle.sg_state.specs.declared.part.Part.{Part}
 use Rattle.sg_state.specs.declared.slot.Slot.TheVariants.{Given, Waits, Empty}
 use Rattle.sg_state.specs.Held.{RowHold, DatumHold, row_hold_cmp, row_hold_total, datum_hold_cmp, datum_hold_total}
-use Rattle.sg_state.specs.Opening.{OpeningOf, IsSoundOpening, opened_of, nobody}
+use Rattle.sg_state.specs.Opening.{OpeningOf, IsSoundOpening, gives, opened_of, nobody}
+use Rattle.sg_state.specs.Part.{rest_in, ArePartsOf, AreParts}
 use Rattle.sg_state.specs.Place.{PlaceOf}
 use Rattle.sg_state.specs.View.{AreBare, Gives, HasKey, EdgeAt, HoldAt, SlotAt, IsKept, IsListed, edges_at, row_holds_at, given_of, datum_hold_of, seen}
+use Rattle.sg_state.proofs.Among.{pair_to}
+use Rattle.sg_state.proofs.InParts.{rest_rises, rest_from, rest_to}
 use Rattle.sg_state.proofs.OpenLists.{Distinct-right, Distinct-apart, puts_rise}
-use Rattle.sg_state.proofs.SoundOpenings.{scope_in, edge_in, given_in, row_hold_in, datum_hold_in, given_rises}
+use Rattle.sg_state.proofs.SoundOpenings.{gives_from, rest_is, scope_in, edge_in, given_in, row_hold_in, datum_hold_in, given_rises}
 use Rattle.sg_state.proofs.Views.{an_edge, a_row_hold, a_datum_hold, edge_from, edge_to, hold_from, hold_to, given_from, given_to, waits_from, waits_to, key_from, key_to, edges_rise, holds_rise, given_rise, data_rise}
-use Rattle.sg_state.proofs.Writing.{held_by, equal_edge, equal_row_hold, equal_datum_hold}
+use Rattle.sg_state.proofs.Equals.{held_by, equal_edge, equal_row_hold, equal_datum_hold}
 
 -- where nothing of a kind is new
 none_new : {X : Type 0} (x : X) (N M : Type 0) → ((N) ↔ (M ⊎ Contains [] x)) → (N) ↔ (M)
@@ -68,14 +73,14 @@ module _ {D : Type 0} (o : OpeningOf D) (sound : IsSoundOpening o) (e0 : List (S
             (λ n. Distinct-apart (map (λ (p : Scope × D). p.0) o.given) (map (λ (k : DatumHold). k.scope) o.datum_holds) sound.one_datum q.0 (map-Contains (λ (p : Scope × D). p.0) o.given q m) n)
 
         module _ (e4 : List (Scope × PlaceOf D)) (d : Gives e3 e4 [] [] o.given []) where
-          keys_are : (s : Scope) → (HasKey e4 s) ↔ (Contains o.scopes s)
+          pub keys_are : (s : Scope) → (HasKey e4 s) ↔ (Contains o.scopes s)
           keys_are s =
               let same : map (λ p. p.0) e4 ≡ map (λ p. p.0) e0 = d.keys ∙ (c.keys ∙ (b.keys ∙ a.keys)) in (
                 (λ h. (bare.keys s).0 (key_from e0 s (subst (λ (xs : List Scope). Contains xs s) same (key_to e4 s h)))),
                 (λ m. key_from e4 s (subst (λ (xs : List Scope). Contains xs s) (sym same) (key_to e0 s (at_start s m)))),
               )
 
-          edges_are : (s : Scope) (l : ℕ) (t : Scope) → (EdgeAt e4 s l t) ↔ (Contains o.edges (an_edge s l t))
+          pub edges_are : (s : Scope) (l : ℕ) (t : Scope) → (EdgeAt e4 s l t) ↔ (Contains o.edges (an_edge s l t))
           edges_are s l t =
               let x = an_edge s l t in
               let k4 = none_new x (EdgeAt e4 s l t) (EdgeAt e3 s l t) (d.edges s l t) in
@@ -105,7 +110,7 @@ module _ {D : Type 0} (o : OpeningOf D) (sound : IsSoundOpening o) (e0 : List (S
               none_held : SlotAt e0 s (Waits u) → ⊥
               none_held h = let e = sym (bare.empty s h.0 h.1) ∙ h.2 in cc
 
-          given_are : (s : Scope) (x : D) → (SlotAt e4 s (Given x)) ↔ (Contains o.given (s, x))
+          pub given_are : (s : Scope) (x : D) → (SlotAt e4 s (Given x)) ↔ (Contains o.given (s, x))
           given_are s x =
               let q : Scope × D = (s, x) in
               let k3 = none_new q (SlotAt e3 s (Given x)) (SlotAt e2 s (Given x)) (c.given s x) in
@@ -116,9 +121,9 @@ module _ {D : Type 0} (o : OpeningOf D) (sound : IsSoundOpening o) (e0 : List (S
               none_given : SlotAt e0 s (Given x) → ⊥
               none_given h = let e = sym (bare.empty s h.0 h.1) ∙ h.2 in cc
 
-          pub seen_is : (made : List ℕ) → made ≡ replicate o.units 0 → seen e4 made ≡ opened_of o
-          seen_is made same =
-              held_by (seen e4 made) (opened_of o)
+          pub seen_is : (made : List ℕ) → made ≡ replicate o.units 0 → (rest : List Edge) → rest ≡ (opened_of o).rest → seen e4 made rest ≡ opened_of o
+          seen_is made same rest is =
+              held_by (seen e4 made rest) (opened_of o)
               (rising_one scope_cmp scope_total (map (λ p. p.0) e4) (opened_of o).graph.scopes (d.places).keys_rise (puts_rise scope_cmp scope_total equal_scope o.scopes) (λ s. (
                 (λ m. (scope_in o sound s).1 ((keys_are s).0 (key_from e4 s m))),
                 (λ m. key_to e4 s ((keys_are s).1 ((scope_in o sound s).0 m))),
@@ -139,7 +144,33 @@ module _ {D : Type 0} (o : OpeningOf D) (sound : IsSoundOpening o) (e0 : List (S
                 (λ m. (datum_hold_in o sound k).1 ((waits_are k.scope k.unit).0 (waits_from e4 k.scope k.unit m))),
                 (λ m. waits_to e4 k.scope k.unit ((waits_are k.scope k.unit).1 ((datum_hold_in o sound k).0 m))),
               )))
-              same
+              same is
+
+          -- what an edge's target has is what the opening gives
+          not_given : (t : Scope) → ((x : D) → SlotAt e4 t (Given x) → ⊥) → (x : D) → Contains o.given (t, x) → ⊥
+          not_given t n x c = n x ((given_are t x).1 c)
+
+          module _ (key : D → ℕ) (ps : List (Part × List Scope)) (are : ArePartsOf key e4 o.edges ps) where
+            pub rest_opened : rest_in ps ≡ (opened_of o).rest
+            rest_opened =
+                rising_one edge_cmp edge_total (rest_in ps) (opened_of o).rest (rest_rises ps) (puts_rise edge_cmp edge_total equal_edge (filter (λ e. not (gives o e.to)) o.edges)) (λ e. (
+                  (λ c. let h = (are.rest e.from e.label e.to).0 (rest_from ps e.from e.label e.to c) in (rest_is o sound e).1 (h.0, not_given e.to h.1)),
+                  (λ c. let h = (rest_is o sound e).0 c in rest_to ps e.from e.label e.to ((are.rest e.from e.label e.to).1 (h.0, (λ x k. h.1 x ((given_are e.to x).0 k))))),
+                ))
+
+            pub parts_opened : AreParts key e4 ps
+            parts_opened = record {
+              keyed = λ s l k t h. let x = (are.keyed s l k t).0 h in ((edges_are s l t).1 x.0, x.1, x.2, x.3);
+              rest = λ s l t h. (edges_are s l t).1 ((are.rest s l t).0 h).0;
+              each = λ s l t e. elim (cases_Bool (gives o t)) [
+                | inl g ↦
+                    let d = gives_from o sound t g in
+                    let at = (given_are t d.0).1 d.1 in
+                    inr (d.0, at, (are.keyed s l (key d.0) t).1 ((edges_are s l t).0 e, d.0, at, refl))
+                | inr n ↦ inl ((are.rest s l t).1 ((edges_are s l t).0 e, (λ x k. let y : gives o t ≡ true = pair_to o.given t x ((given_are t x).0 k) in absurd (cc))))
+              ];
+              apart = λ s l k t a b. let y = (are.keyed s l k t).0 b in ((are.rest s l t).0 a).1 y.1 y.2;
+            }
 
           pub opened_kept : (made : List ℕ) → made ≡ replicate o.units 0 → (units : List (ℕ × List Scope)) → IsRising nat_cmp (map (λ p. p.0) units) → ((k : RowHold) → Contains o.row_holds k → IsListed units k.unit k.scope) → ((k : DatumHold) → Contains o.datum_holds k → IsListed units k.unit k.scope) → IsKept e4 made units
           opened_kept made same units up rows data_ = record {

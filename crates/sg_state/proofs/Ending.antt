@@ -7,19 +7,24 @@ use Rattle.std.specs.BTreeMap.{is_at}
 use Rattle.std.specs.List.{Contains}
 use Rattle.std.specs.Map.{lookup}
 use Rattle.sg_base.specs.declared.scope.Scope.{Scope}
+use Rattle.sg_base.specs.Graph.{Edge}
 use Rattle.sg_base.specs.Scope.{scope_cmp, scope_total}
 use Rattle.sg_base.proofs.Finite.{nothing_in, single}
 use Rattle.sg_base.proofs.Scopes.{equal_scope, number_same, number_itself}
+use Rattle.sg_state.specs.declared.part.Part.{Part}
 use Rattle.sg_state.specs.declared.slot.Slot.{Slot}
 use Rattle.sg_state.specs.declared.slot.Slot.TheVariants.{Given, Waits, Empty}
 use Rattle.sg_state.specs.Held.{without_unit}
+use Rattle.sg_state.specs.Part.{AreParts}
 use Rattle.sg_state.specs.Place.{PlaceOf, HasHolder, LosesUnit}
 use Rattle.sg_state.specs.Slot.{without_holder}
 use Rattle.sg_state.specs.View.{ArePlaces, ChangesPlace, HoldAt, SlotAt, LeavesAll, IsKept, IsListed, seen}
 use Rattle.sg_state.proofs.Changing.{changed_places}
+use Rattle.sg_state.proofs.InParts.{parts_after}
 use Rattle.sg_state.proofs.Keeping.{kept_after}
 use Rattle.sg_state.proofs.Keyed.{found-Contains, none_there, at_changes, at_keeps}
-use Rattle.sg_state.proofs.Writing.{keys_stay, keeps_edges, held_by, same_edges, same_given, less_holds, less_data, not_of, of_not}
+use Rattle.sg_state.proofs.Equals.{held_by, not_of, of_not}
+use Rattle.sg_state.proofs.Writing.{keys_stay, keeps_edges, same_edges, same_given, less_holds, less_data}
 
 -- ---- the datum
 
@@ -132,9 +137,9 @@ module _ {D : Type 0} (old mid new : List (Scope × PlaceOf D)) (xs ys : List Sc
 -- ---- the end of a unit
 
 module _ {D : Type 0} (es new : List (Scope × PlaceOf D)) (made : List ℕ) (lists : List (ℕ × List Scope)) (kept : IsKept es made lists) (list : List Scope) (u : ℕ) (cover : (j : Scope) → IsListed lists u j → Contains list j) (l : LeavesAll es new list u) where
-  pub unit_ended : seen new made ≡ without_unit (seen es made) u
-  unit_ended =
-      held_by (seen new made) (without_unit (seen es made) u) l.keys
+  pub unit_ended : (rest : List Edge) → seen new made rest ≡ without_unit (seen es made rest) u
+  unit_ended rest =
+      held_by (seen new made rest) (without_unit (seen es made rest) u) l.keys
       (same_edges es new kept.places l.places l.edges)
       (same_given es new kept.places l.places l.given)
       (less_holds es new kept.places l.places (λ k. not (eqb k.unit u)) (λ j m v. (
@@ -146,6 +151,10 @@ module _ {D : Type 0} (es new : List (Scope × PlaceOf D)) (made : List ℕ) (li
         (λ a. (l.waits j v).1 ((λ e. not_of (eqb v u) a.0 (subst (λ (n : ℕ). eqb v n ≡ true) e.0 (number_itself v))), a.1)),
       )))
       refl
+      refl
 
   pub ended_kept : IsKept new made lists
   ended_kept = kept_after es made lists kept new l.places l.keys (λ s m t e. inl ((l.edges s m t).0 e)) (λ s m v h. ((l.holds s m v).0 h).1) (λ s v h. ((l.waits s v).0 h).1)
+
+  pub ended_parts : (key : D → ℕ) (ps : List (Part × List Scope)) → AreParts key es ps → AreParts key new ps
+  ended_parts key ps parts = parts_after key es ps parts new l.edges (λ t d k. (l.given t d).1 k)

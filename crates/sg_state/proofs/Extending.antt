@@ -28,7 +28,7 @@ put_case {X} R xs y x z Greater rest c =
       | inr m ↦ elim (rest m) [ inl k ↦ inl (Contains-tail y z xs k) | inr s ↦ inr s ]
     ]
 
-put_from : {X : Type 0} (R : X → X → Ordering) (xs : List X) (x z : X) → Contains (put R xs x) z → Contains xs z ⊎ (z ≡ x)
+pub put_from : {X : Type 0} (R : X → X → Ordering) (xs : List X) (x z : X) → Contains (put R xs x) z → Contains xs z ⊎ (z ≡ x)
 put_from R [] x z c = inr (single x z c)
 put_from R (y ∷ ys) x z c = put_case R ys y x z (R x y) (put_from R ys x z) c
 
@@ -41,7 +41,7 @@ stays_case {X} R xs y x z Greater rest c =
       | inr m ↦ Contains-tail y z (put R xs x) (rest m)
     ]
 
-put_stays : {X : Type 0} (R : X → X → Ordering) (xs : List X) (x z : X) → Contains xs z → Contains (put R xs x) z
+pub put_stays : {X : Type 0} (R : X → X → Ordering) (xs : List X) (x z : X) → Contains xs z → Contains (put R xs x) z
 put_stays R [] x z c = absurd (nothing_in z c)
 put_stays R (y ∷ ys) x z c = stays_case R ys y x z (R x y) (put_stays R ys x z) c
 

@@ -8,7 +8,7 @@ use Rattle.std.specs.Map.{lookup}
 use Rattle.std.specs.Option.{option_copied, IfSome, IfNone, is_some}
 use Rattle.std.specs.Ordering.{nat_cmp}
 use Rattle.sg_base.specs.declared.scope.Scope.{Scope}
-use Rattle.sg_base.specs.Graph.{GraphOf, HasScope, HasDatum, HasNoDatum, row_of}
+use Rattle.sg_base.specs.Graph.{Edge, GraphOf, HasScope, HasDatum, HasNoDatum, row_of}
 use Rattle.sg_base.specs.List.{IsRising}
 use Rattle.sg_base.specs.Scope.{scope_cmp, scope_total}
 use Rattle.sg_base.specs.State.{IsOpen, IsUnset}
@@ -55,10 +55,10 @@ module _ {D : Type 0} (es : List (Scope × PlaceOf D)) (s : Scope) (l : ℕ) whe
       (λ h. let k = h.2 in subst (λ (x : Row). Contains x.targets t) (one_row h.0 k.0 h.1 k.1) k.2),
     )
 
-module _ {D : Type 0} (es : List (Scope × PlaceOf D)) (made : List ℕ) (s : Scope) (l : ℕ) (held : IsHeld (seen es made)) where
-  pub row_is : (ts : List Scope) → IsRising scope_cmp ts → ((t : Scope) → (Contains ts t) ↔ (EdgeAt es s l t)) → ts ≡ row_of (seen es made).graph s l
+module _ {D : Type 0} (es : List (Scope × PlaceOf D)) (made : List ℕ) (rest : List Edge) (s : Scope) (l : ℕ) (held : IsHeld (seen es made rest)) where
+  pub row_is : (ts : List Scope) → IsRising scope_cmp ts → ((t : Scope) → (Contains ts t) ↔ (EdgeAt es s l t)) → ts ≡ row_of (seen es made rest).graph s l
   row_is ts up same =
-      let g : GraphOf D = (seen es made).graph in
+      let g : GraphOf D = (seen es made rest).graph in
       rising_one scope_cmp scope_total ts (row_of g s l) up (Rising-row g (held.graph).edges_rise s l) (λ t. (
         (λ c. row_to g s l t (edge_to es s l t ((same t).0 c))),
         (λ c. (same t).1 (edge_from es s l t (row_from g s l t c))),
@@ -66,36 +66,38 @@ module _ {D : Type 0} (es : List (Scope × PlaceOf D)) (made : List ℕ) (s : Sc
 
 -- ---- data
 
-module _ {D : Type 0} (es : List (Scope × PlaceOf D)) (made : List ℕ) (s : Scope) where
-  pub slot_waits : (x : Slot D) (u : ℕ) → SlotAt es s x → x ≡ Waits u → HoldsDatum (seen es made) u s
+pub not_given : {D : Type 0} (es : List (Scope × PlaceOf D)) (s : Scope) → ArePlaces es → (x : Slot D) → SlotAt es s x → ((d : D) → x ≡ Given d → ⊥) → (d : D) → SlotAt es s (Given d) → ⊥
+not_given {D} es s ok x h n d w =
+    let same = one_value scope_cmp scope_total equal_scope es ok.keys_rise s h.0 w.0 h.1 w.1 in
+    n d (sym h.2 ∙ (ap (λ (p : PlaceOf D). p.slot) same ∙ w.2))
+
+module _ {D : Type 0} (es : List (Scope × PlaceOf D)) (made : List ℕ) (rest : List Edge) (s : Scope) where
+  pub slot_waits : (x : Slot D) (u : ℕ) → SlotAt es s x → x ≡ Waits u → HoldsDatum (seen es made rest) u s
   slot_waits x u h e = waits_to es s u (h.0, h.1, h.2 ∙ e)
 
-  pub slot_given : (x : Slot D) (d : D) → SlotAt es s x → x ≡ Given d → HasDatum (seen es made).graph s d
+  pub slot_given : (x : Slot D) (d : D) → SlotAt es s x → x ≡ Given d → HasDatum (seen es made rest).graph s d
   slot_given x d h e = given_to es s d (h.0, h.1, h.2 ∙ e)
 
-  pub slot_not_unset : ArePlaces es → (x : Slot D) → SlotAt es s x → ((u : ℕ) → x ≡ Waits u → ⊥) → IsUnset (state_of (seen es made)) s → ⊥
+  pub slot_not_unset : ArePlaces es → (x : Slot D) → SlotAt es s x → ((u : ℕ) → x ≡ Waits u → ⊥) → IsUnset (state_of (seen es made rest)) s → ⊥
   slot_not_unset ok x h n o =
-      let k = unset_from (seen es made) s o in
+      let k = unset_from (seen es made rest) s o in
       let w = waits_from es s k.0 k.1 in
       let same = one_value scope_cmp scope_total equal_scope es ok.keys_rise s h.0 w.0 h.1 w.1 in
       n k.0 (sym h.2 ∙ (ap (λ (p : PlaceOf D). p.slot) same ∙ w.2))
 
-  pub slot_not_given : ArePlaces es → (x : Slot D) → SlotAt es s x → ((d : D) → x ≡ Given d → ⊥) → HasNoDatum (seen es made).graph s
-  slot_not_given ok x h n d o =
-      let w = given_from es s d o in
-      let same = one_value scope_cmp scope_total equal_scope es ok.keys_rise s h.0 w.0 h.1 w.1 in
-      n d (sym h.2 ∙ (ap (λ (p : PlaceOf D). p.slot) same ∙ w.2))
+  pub slot_not_given : ArePlaces es → (x : Slot D) → SlotAt es s x → ((d : D) → x ≡ Given d → ⊥) → HasNoDatum (seen es made rest).graph s
+  slot_not_given ok x h n d o = not_given es s ok x h n d (given_from es s d o)
 
-  pub none_unset : (HasKey es s → ⊥) → IsUnset (state_of (seen es made)) s → ⊥
+  pub none_unset : (HasKey es s → ⊥) → IsUnset (state_of (seen es made rest)) s → ⊥
   none_unset n o =
-      let k = unset_from (seen es made) s o in
+      let k = unset_from (seen es made rest) s o in
       let w = waits_from es s k.0 k.1 in
       n (w.0, w.1)
 
-  pub none_given : (HasKey es s → ⊥) → HasNoDatum (seen es made).graph s
+  pub none_given : (HasKey es s → ⊥) → HasNoDatum (seen es made rest).graph s
   none_given n d o = let w = given_from es s d o in n (w.0, w.1)
 
-  pub scope_is : (o : Option (Bor (Slot D))) → IfSome o (λ x. SlotAt es s x.now) → IfNone o (HasKey es s → ⊥) → (IsTrue (is_some o)) ↔ (HasScope (seen es made).graph s)
+  pub scope_is : (o : Option (Bor (Slot D))) → IfSome o (λ x. SlotAt es s x.now) → IfNone o (HasKey es s → ⊥) → (IsTrue (is_some o)) ↔ (HasScope (seen es made rest).graph s)
   scope_is None h n = ((λ t. cc), (λ c. absurd (n (key_from es s c))))
   scope_is (Some x) h n = ((λ t. key_to es s (h.0, h.1)), (λ c. refl))
 

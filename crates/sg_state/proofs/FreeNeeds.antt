@@ -13,11 +13,13 @@ use Rattle.sg_base.specs.Scope.{scope_cmp}
 use Rattle.sg_base.specs.State.{IsUnset}
 use Rattle.sg_base.proofs.Finite.{nothing_in, single, Contains-head, Contains-cons, Contains-tail, each_at, each_append}
 use Rattle.sg_base.proofs.Scopes.{scope_itself, nat_itself, number_same, number_itself}
+use Rattle.sg_state.specs.declared.part.Part.{Part}
 use Rattle.sg_state.specs.declared.need.Need.{Need}
 use Rattle.sg_state.specs.declared.need.Need.TheVariants.{Row, Datum}
 use Rattle.sg_state.specs.Freed.{Adds, IsRowIn, IsFreeBelow, IsFreeRow, IsFreeDatum}
 use Rattle.sg_state.specs.Held.{HeldOf, IsHeld, HoldsRow, HoldsDatum, state_of}
 use Rattle.sg_state.specs.Need.{need_cmp, HoldsAlone}
+use Rattle.sg_state.specs.Part.{AreParts, rest_in}
 use Rattle.sg_state.specs.Place.{PlaceOf}
 use Rattle.sg_state.specs.View.{IsKept, IsListed, seen}
 use Rattle.sg_state.proofs.Extending.{unset_to}
@@ -253,9 +255,9 @@ frees_exact h u list rows new held row_in datum_in a b n =
     )
 
 -- where the unit's holds are listed
-pub frees_all : {D : Type 0} (es : List (Scope × PlaceOf D)) (made : List ℕ) (lists : List (ℕ × List Scope)) → IsKept es made lists → (u : ℕ) (list : List Scope) → ((s : Scope) → IsListed lists u s → Contains list s) → (rows new : List Need) → Adds [] rows (IsFreeRow (seen es made) u list) → Adds rows new (IsFreeDatum (seen es made) u list) → (n : Need) → (Contains new n) ↔ (HoldsAlone (seen es made) u n)
-frees_all es made lists kept u list cover rows new a b n =
-    frees_exact (seen es made) u list rows new (held_from es made lists kept) (λ s l k. cover s (kept.row_listed s l u (hold_from es s l u k)).1) (λ s k. cover s (kept.datum_listed s u (waits_from es s u k)).1) a b n
+pub frees_all : {D : Type 0} (es : List (Scope × PlaceOf D)) (made : List ℕ) (lists : List (ℕ × List Scope)) → IsKept es made lists → (key : D → ℕ) (ps : List (Part × List Scope)) → AreParts key es ps → (u : ℕ) (list : List Scope) → ((s : Scope) → IsListed lists u s → Contains list s) → (rows new : List Need) → Adds [] rows (IsFreeRow (seen es made (rest_in ps)) u list) → Adds rows new (IsFreeDatum (seen es made (rest_in ps)) u list) → (n : Need) → (Contains new n) ↔ (HoldsAlone (seen es made (rest_in ps)) u n)
+frees_all es made lists kept key ps ok u list cover rows new a b n =
+    frees_exact (seen es made (rest_in ps)) u list rows new (held_from es made lists kept key ps ok) (λ s l k. cover s (kept.row_listed s l u (hold_from es s l u k)).1) (λ s k. cover s (kept.datum_listed s u (waits_from es s u k)).1) a b n
 
 -- a row list holds rows
 pub are_rows : {D : Type 0} (h : HeldOf D) (u : ℕ) (list : List Scope) (rows : List Need) → Adds [] rows (IsFreeRow h u list) → (n : Need) → Contains rows n → IsRowIn list n

@@ -9,20 +9,25 @@ use Rattle.std.specs.List.{Contains, flat_map, range_with_len}
 use Rattle.std.specs.Ordering.{nat_cmp}
 use Rattle.sg_base.specs.declared.scope.Scope.{Scope}
 use Rattle.sg_base.specs.Label.{Has}
+use Rattle.sg_base.specs.Graph.{Edge}
 use Rattle.sg_base.specs.List.{IsRising}
 use Rattle.sg_base.specs.Scope.{scope_cmp, scope_total}
 use Rattle.sg_base.proofs.Finite.{nothing_in, Contains-head, Contains-cons, Contains-tail, map-Contains, Contains-map, Contains-filter, filter-Contains, each_from, each_at}
 use Rattle.sg_base.proofs.Rising.{rising_one}
 use Rattle.sg_base.proofs.Scopes.{equal_scope, number_same, number_itself}
+use Rattle.sg_state.specs.declared.part.Part.{Part}
 use Rattle.sg_state.specs.declared.slot.Slot.{Slot}
 use Rattle.sg_state.specs.declared.slot.Slot.TheVariants.{Given, Waits, Empty}
 use Rattle.sg_state.specs.Held.{RowHold, DatumHold, row_hold_cmp, row_hold_total, datum_hold_cmp, datum_hold_total, labels_in, put, with_fresh}
+use Rattle.sg_state.specs.Part.{AreParts}
 use Rattle.sg_state.specs.Place.{PlaceOf, HasTarget, HasHolder, IsPlace, IsFresh}
-use Rattle.sg_state.specs.View.{ArePlaces, HasKey, IsKept, IsListed, KeepsLists, row_holds_at, datum_hold_of, seen}
+use Rattle.sg_state.specs.View.{EdgeAt, ArePlaces, HasKey, IsKept, IsListed, KeepsLists, row_holds_at, datum_hold_of, seen}
+use Rattle.sg_state.proofs.InParts.{parts_after}
 use Rattle.sg_state.proofs.Keyed.{insert_adds, at_inserts}
 use Rattle.sg_state.proofs.RisingLists.{is_put, Rising-puts, Contains-puts}
 use Rattle.sg_state.proofs.Views.{a_datum_hold, hold_from, hold_to, waits_from, waits_to, key_from, key_to, holds_rise, data_rise}
-use Rattle.sg_state.proofs.Writing.{held_by, equal_row_hold, equal_datum_hold, row_hold_by, datum_hold_by, same_edges, same_given, same_data}
+use Rattle.sg_state.proofs.Equals.{held_by, equal_row_hold, equal_datum_hold, row_hold_by, datum_hold_by}
+use Rattle.sg_state.proofs.Writing.{same_edges, same_given, same_data}
 
 -- ---- the labels of a set
 
@@ -162,25 +167,32 @@ module _ {D : Type 0} (es : List (Scope × PlaceOf D)) (made : List ℕ) (lists 
           (λ h. here.1 (inl h)),
         ))
 
-    pub scope_made : seen grown (slice_set made u (n + 1)) ≡ with_fresh (seen es made) u labels datum
-    scope_made =
-        rw (← next) (held_by (seen grown (slice_set made u (n + 1))) (record {
-          graph = record { scopes = put scope_cmp (map (λ q. q.0) es) made_scope; edges = (seen es made).graph.edges; given = (seen es made).graph.given };
-          row_holds = fold (λ (ks : List RowHold) (l : ℕ). put row_hold_cmp ks (hold_of l)) (flat_map row_holds_at es) (labels_in labels);
-          datum_holds = cond datum (put datum_hold_cmp (flat_map (λ q. datum_hold_of q.0 (q.1).slot) es) (a_datum_hold made_scope u)) (flat_map (λ q. datum_hold_of q.0 (q.1).slot) es);
-          made = slice_set made u (n + 1);
-        }) scopes_put
-        (same_edges es grown kept.places grown_places (λ j m t.
+    edges_stay : (j : Scope) (m : ℕ) (t : Scope) → (EdgeAt grown j m t) ↔ (EdgeAt es j m t)
+    edges_stay j m t =
         let here = at (λ (q : PlaceOf D). HasTarget q m t) j in (
           (λ h. elim (here.0 h) [ inl x ↦ x | inr x ↦ absurd (fresh.targets m t x.1) ]),
           (λ h. here.1 (inl h)),
-        )))
+        )
+
+    pub grown_parts : (key : D → ℕ) (ps : List (Part × List Scope)) → AreParts key es ps → AreParts key grown ps
+    grown_parts key ps parts = parts_after key es ps parts grown edges_stay (λ t d k. (at (λ (q : PlaceOf D). q.slot ≡ Given d) t).1 (inl k))
+
+    pub scope_made : (rest : List Edge) → seen grown (slice_set made u (n + 1)) rest ≡ with_fresh (seen es made rest) u labels datum
+    scope_made rest =
+        rw (← next) (held_by (seen grown (slice_set made u (n + 1)) rest) (record {
+          graph = record { scopes = put scope_cmp (map (λ q. q.0) es) made_scope; edges = (seen es made rest).graph.edges; given = (seen es made rest).graph.given };
+          row_holds = fold (λ (ks : List RowHold) (l : ℕ). put row_hold_cmp ks (hold_of l)) (flat_map row_holds_at es) (labels_in labels);
+          datum_holds = cond datum (put datum_hold_cmp (flat_map (λ q. datum_hold_of q.0 (q.1).slot) es) (a_datum_hold made_scope u)) (flat_map (λ q. datum_hold_of q.0 (q.1).slot) es);
+          made = slice_set made u (n + 1);
+          rest = rest;
+        }) scopes_put
+        (same_edges es grown kept.places grown_places edges_stay)
         (same_given es grown kept.places grown_places (λ j d.
         let here = at (λ (q : PlaceOf D). q.slot ≡ Given d) j in (
           (λ h. elim (here.0 h) [ inl x ↦ x | inr x ↦ absurd (given_if datum d (sym fresh.slot ∙ x.1)) ]),
           (λ h. here.1 (inl h)),
         )))
-        holds_put (data_put datum refl) refl)
+        holds_put (data_put datum refl) refl refl)
 
     pub grown_kept : (new : List (ℕ × List Scope)) → KeepsLists lists new → IsRising nat_cmp (map (λ q. q.0) new) → IsListed new u made_scope → IsKept grown (slice_set made u (n + 1)) new
     grown_kept new keeps lists_up listed = record {

@@ -19,7 +19,8 @@ use Rattle.sg_state.specs.View.{ArePlaces, AreBare, ChangesPlace, Gives, HasKey,
 use Rattle.sg_state.proofs.Changing.{changed_places}
 use Rattle.sg_state.proofs.Keyed.{found-Contains, insert_adds, at_inserts, at_adds, at_changes, at_here}
 use Rattle.sg_state.proofs.Views.{an_edge, a_row_hold, a_datum_hold, key_from, key_to}
-use Rattle.sg_state.proofs.Writing.{keys_stay, keeps_edges, keeps_holds, keeps_slots, row_hold_by, datum_hold_by}
+use Rattle.sg_state.proofs.Equals.{row_hold_by, datum_hold_by}
+use Rattle.sg_state.proofs.Writing.{keys_stay, keeps_edges, keeps_holds, keeps_slots}
 use Rattle.sg_base.proofs.Scopes.{edge_by}
 
 -- ---- one more thing of a list

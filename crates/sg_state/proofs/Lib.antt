@@ -1,7 +1,11 @@
+pub mod ByHash
+pub mod Among
+pub mod Equals
+pub mod InParts
+pub mod Resting
 pub mod Keyed
 pub mod InOrder
 pub mod EachOnce
-pub mod Removing
 pub mod PlaceRows
 pub mod RisingLists
 pub mod Views

@@ -1,5 +1,5 @@
 -- Tests of an opening, and what they say.
-use Rattle.std.proofs.Common.{◌≡◌, ℕ, zero, suc, ◌+◌, ◌<◌, List, [], ◌∷◌, ◌++◌, ◌↔◌, Bool, true, false, not, ◌&&◌, ◌||◌, eqb, nat_lt, IsTrue, inl, inr, refl, sym, ap, ◌∙◌, subst, map, length, take, drop, get_or, ◌-◌, Result, Ok, Err, arith}
+use Rattle.std.proofs.Common.{◌≡◌, ℕ, zero, suc, ◌+◌, ◌<◌, List, [], ◌∷◌, ◌++◌, ◌↔◌, Bool, true, false, not, ◌&&◌, eqb, nat_lt, IsTrue, inl, inr, refl, sym, ap, ◌∙◌, subst, map, length, take, drop, get_or, ◌-◌, Result, Ok, Err, arith}
 use Rattle.std.proofs.lemmas.Bool.{cases_Bool}
 use Rattle.std.proofs.lemmas.Bool.Decides.{nat_tests}
 use Rattle.std.proofs.lemmas.List.{length-drop, length-map, take-append-drop}
@@ -19,10 +19,11 @@ use Rattle.sg_base.specs.List.{IsDistinct, IsRising}
 use Rattle.sg_base.specs.Scope.{is_scope, scope_cmp, scope_total}
 use Rattle.sg_base.proofs.Finite.{nothing_in, Contains-head, Contains-cons, Contains-tail, map-Contains, Contains-map, each_map, each_at, Distinct-append, Distinct-left}
 use Rattle.sg_base.proofs.Rising.{answers_rise, each_take, each_drop}
-use Rattle.sg_base.proofs.Scopes.{equal_scope, scope_itself, scope_same, same_scope, number_same, number_itself, both_true}
+use Rattle.sg_base.proofs.Scopes.{equal_scope, scope_itself, number_same, number_itself, both_true}
 use Rattle.sg_state.specs.Held.{RowHold, DatumHold}
 use Rattle.sg_state.specs.Listed.{lists}
 use Rattle.sg_state.specs.Opening.{OpeningOf, IsSoundOpening, data_of, nobody, edge_of, row_hold_of, held_datum_of}
+use Rattle.sg_state.proofs.Among.{any_here, any_from, any_to}
 use Rattle.sg_state.proofs.Beginning.{map_twice}
 use Rattle.sg_state.proofs.OpenLists.{Distinct-right, Distinct-apart}
 
@@ -46,30 +47,6 @@ all_from {X} p (y ∷ ys) t x c =
 pub all_to : {X : Type 0} (p : X → Bool) (xs : List X) → ((x : X) → Contains xs x → p x ≡ true) → list_all p xs ≡ true
 all_to p [] h = refl
 all_to p (y ∷ ys) h = both (p y) (list_all p ys) (h y (Contains-head y ys)) (all_to p ys (λ x c. h x (Contains-tail y x ys c)))
-
--- some thing has this scope
-module _ {X : Type 0} (key : X → Scope) (s : Scope) where
-  abbrev pub any_here : List X → Bool
-  any_here xs = list_any (λ x. is_scope (key x) s) xs
-
-  pub any_from : (xs : List X) → any_here xs ≡ true → Contains (map key xs) s
-  any_from [] t = absurd (cc)
-  any_from (y ∷ ys) t =
-      elim (cases_Bool (is_scope (key y) s)) [
-        | inl e ↦ subst (λ (z : Scope). Contains (map key (y ∷ ys)) z) (scope_same (key y) s e) (Contains-head (key y) (map key ys))
-        | inr e ↦ Contains-tail (key y) s (map key ys) (any_from ys (sym (ap (λ (b : Bool). b || any_here ys) e) ∙ t))
-      ]
-
-  pub any_to : (xs : List X) → Contains (map key xs) s → any_here xs ≡ true
-  any_to [] c = absurd (nothing_in s c)
-  any_to (y ∷ ys) c =
-      elim (Contains-cons (key y) s (map key ys) c) [
-        | inl e ↦ ap (λ (b : Bool). b || any_here ys) (same_scope (key y) s (sym e))
-        | inr m ↦ elim (cases_Bool (is_scope (key y) s)) [
-          | inl e ↦ ap (λ (b : Bool). b || any_here ys) e
-          | inr e ↦ ap (λ (b : Bool). b || any_here ys) e ∙ any_to ys m
-        ]
-      ]
 
 pub map_itself : {X : Type 0} (xs : List X) → map (λ x. x) xs ≡ xs
 map_itself [] = refl

@@ -1,66 +1,30 @@
 -- What a change at one scope does to the graph and the holds that the scopes say.
-use Rattle.std.proofs.Common.{◌≡◌, ℕ, List, ◌⊎◌, ◌↔◌, Bool, true, false, not, ◌&&◌, eqb, inl, inr, refl, sym, ap, ◌∙◌, subst, map, Some}
+use Rattle.std.proofs.Common.{◌≡◌, ℕ, List, ◌⊎◌, ◌↔◌, Bool, true, not, ◌&&◌, eqb, cond, inl, inr, refl, sym, ap, ◌∙◌, subst, map, Some}
 use Rattle.std.proofs.lemmas.Map.{keys-set_value}
 use Rattle.std.specs.BTreeMap.{is_at}
 use Rattle.std.specs.Cmp.{on_total}
 use Rattle.std.specs.List.{Contains, filter, flat_map}
 use Rattle.std.specs.Map.{lookup, set_value}
-use Rattle.std.specs.Ordering.{nat_cmp, on, ordering_then}
-use Rattle.std.specs.declared.cmp.Ordering.TheVariants.{Equal}
+use Rattle.std.specs.Ordering.{on}
 use Rattle.sg_base.specs.declared.scope.Scope.{Scope}
 use Rattle.sg_base.specs.Graph.{Edge, edge_cmp, edge_total}
 use Rattle.sg_base.specs.Scope.{scope_cmp, scope_total, is_scope}
 use Rattle.sg_base.proofs.Rising.{rising_one}
-use Rattle.sg_base.proofs.Scopes.{edge_by, then_equal, equal_nat, equal_scope, scope_same, same_scope, number_same, number_itself, both_true}
+use Rattle.sg_base.proofs.Scopes.{edge_by, equal_scope, scope_same, same_scope, number_same, number_itself, both_true}
+use Rattle.sg_state.specs.declared.part.Part.{Part}
 use Rattle.sg_state.specs.declared.slot.Slot.{Slot}
 use Rattle.sg_state.specs.declared.slot.Slot.TheVariants.{Given, Waits}
-use Rattle.sg_state.specs.Held.{HeldOf, RowHold, DatumHold, row_hold_cmp, row_hold_total, datum_hold_cmp, datum_hold_total, put, with_edge, with_datum, without_row, is_row_hold, is_datum_hold}
+use Rattle.sg_state.specs.Held.{RowHold, DatumHold, row_hold_cmp, row_hold_total, datum_hold_cmp, datum_hold_total, put, is_given, with_edge, with_datum, without_row, is_row_hold, is_datum_hold}
+use Rattle.sg_state.specs.Part.{AddsIn, IsPartOf, AreParts}
 use Rattle.sg_state.specs.Place.{PlaceOf, HasTarget, HasHolder, AddsTarget, LosesHolder}
 use Rattle.sg_state.specs.View.{ArePlaces, IsKept, ChangesPlace, HasKey, EdgeAt, HoldAt, SlotAt, edges_at, row_holds_at, given_of, datum_hold_of, seen}
 use Rattle.sg_state.proofs.Changing.{changed_places}
+use Rattle.sg_state.proofs.Equals.{held_by, equal_edge, not_of, of_not}
+use Rattle.sg_state.proofs.InParts.{parts_after, parts_more}
 use Rattle.sg_state.proofs.Keeping.{kept_after}
 use Rattle.sg_state.proofs.Keyed.{found-Contains, at_adds, at_changes, at_keeps, at_set_from, at_here}
 use Rattle.sg_state.proofs.RisingLists.{is_put, is_filter}
 use Rattle.sg_state.proofs.Views.{an_edge, a_row_hold, a_datum_hold, edge_from, edge_to, hold_from, hold_to, given_from, given_to, waits_from, waits_to, edges_rise, holds_rise, given_rise, data_rise}
-
--- ---- what is equal is one
-
-pub row_hold_by : (a b : RowHold) → a.scope ≡ b.scope → a.label ≡ b.label → a.unit ≡ b.unit → a ≡ b
-row_hold_by a b s l u =
-    ap (λ (x : Scope). let r : RowHold = record { scope = x; label = a.label; unit = a.unit } in r) s
-    ∙ (ap (λ (x : ℕ). let r : RowHold = record { scope = b.scope; label = x; unit = a.unit } in r) l
-    ∙ ap (λ (x : ℕ). let r : RowHold = record { scope = b.scope; label = b.label; unit = x } in r) u)
-
-pub datum_hold_by : (a b : DatumHold) → a.scope ≡ b.scope → a.unit ≡ b.unit → a ≡ b
-datum_hold_by a b s u =
-    ap (λ (x : Scope). let r : DatumHold = record { scope = x; unit = a.unit } in r) s
-    ∙ ap (λ (x : ℕ). let r : DatumHold = record { scope = b.scope; unit = x } in r) u
-
-pub equal_edge : (a b : Edge) → edge_cmp a b ≡ Equal → a ≡ b
-equal_edge a b h =
-    let k = then_equal (scope_cmp a.from b.from) (ordering_then (nat_cmp a.label b.label) (scope_cmp a.to b.to)) h in
-    let m = then_equal (nat_cmp a.label b.label) (scope_cmp a.to b.to) k.1 in
-    edge_by a b (equal_scope a.from b.from k.0) (equal_nat a.label b.label m.0) (equal_scope a.to b.to m.1)
-
-pub equal_row_hold : (a b : RowHold) → row_hold_cmp a b ≡ Equal → a ≡ b
-equal_row_hold a b h =
-    let k = then_equal (scope_cmp a.scope b.scope) (ordering_then (nat_cmp a.label b.label) (nat_cmp a.unit b.unit)) h in
-    let m = then_equal (nat_cmp a.label b.label) (nat_cmp a.unit b.unit) k.1 in
-    row_hold_by a b (equal_scope a.scope b.scope k.0) (equal_nat a.label b.label m.0) (equal_nat a.unit b.unit m.1)
-
-pub equal_datum_hold : (a b : DatumHold) → datum_hold_cmp a b ≡ Equal → a ≡ b
-equal_datum_hold a b h =
-    let k = then_equal (scope_cmp a.scope b.scope) (nat_cmp a.unit b.unit) h in
-    datum_hold_by a b (equal_scope a.scope b.scope k.0) (equal_nat a.unit b.unit k.1)
-
-pub held_by : {D : Type 0} (a b : HeldOf D) → a.graph.scopes ≡ b.graph.scopes → a.graph.edges ≡ b.graph.edges → a.graph.given ≡ b.graph.given → a.row_holds ≡ b.row_holds → a.datum_holds ≡ b.datum_holds → a.made ≡ b.made → a ≡ b
-held_by {D} a b s e g r d m =
-    ap (λ (x : List Scope). let h : HeldOf D = record { graph = record { scopes = x; edges = a.graph.edges; given = a.graph.given }; row_holds = a.row_holds; datum_holds = a.datum_holds; made = a.made } in h) s
-    ∙ (ap (λ (x : List Edge). let h : HeldOf D = record { graph = record { scopes = b.graph.scopes; edges = x; given = a.graph.given }; row_holds = a.row_holds; datum_holds = a.datum_holds; made = a.made } in h) e
-    ∙ (ap (λ (x : List (Scope × D)). let h : HeldOf D = record { graph = record { scopes = b.graph.scopes; edges = b.graph.edges; given = x }; row_holds = a.row_holds; datum_holds = a.datum_holds; made = a.made } in h) g
-    ∙ (ap (λ (x : List RowHold). let h : HeldOf D = record { graph = b.graph; row_holds = x; datum_holds = a.datum_holds; made = a.made } in h) r
-    ∙ (ap (λ (x : List DatumHold). let h : HeldOf D = record { graph = b.graph; row_holds = b.row_holds; datum_holds = x; made = a.made } in h) d
-    ∙ ap (λ (x : List ℕ). let h : HeldOf D = record { graph = b.graph; row_holds = b.row_holds; datum_holds = b.datum_holds; made = x } in h) m))))
 
 -- ---- tests
 
@@ -86,14 +50,6 @@ pub the_datum_hold_is : (u : ℕ) (s : Scope) (k : DatumHold) → k.unit ≡ u �
 the_datum_hold_is u s k a b =
     let x : eqb k.unit u ≡ true = subst (λ (n : ℕ). eqb k.unit n ≡ true) a (number_itself k.unit) in
     ap (λ (t : Bool). t && is_scope k.scope s) x ∙ same_scope k.scope s b
-
-pub not_of : (b : Bool) → not b ≡ true → b ≡ true → ⊥
-not_of true n h = absurd (cc)
-not_of false n h = absurd (cc)
-
-pub of_not : (b : Bool) → (b ≡ true → ⊥) → not b ≡ true
-of_not true n = absurd (n refl)
-of_not false n = refl
 
 -- ---- lists that say the same
 
@@ -190,20 +146,24 @@ module _ {D : Type 0} (es new : List (Scope × PlaceOf D)) (made : List ℕ) (s 
     pub keeps_slots : q.slot ≡ p.slot → (j : Scope) (x : Slot D) → (SlotAt new j x) ↔ (SlotAt es j x)
     keeps_slots e j x = rw to (at_keeps scope_cmp scope_total equal_scope es ok.keys_rise s p q there (λ (y : PlaceOf D). y.slot ≡ x) (same_slot p q x e) j)
 
-  pub edge_written : (l : ℕ) (t : Scope) → ChangesPlace (λ p q. AddsTarget p q l t) es new s → seen new made ≡ with_edge (seen es made) (an_edge s l t)
-  edge_written l t h =
+  edge_adds : (l : ℕ) (t : Scope) → ChangesPlace (λ p q. AddsTarget p q l t) es new s → (j : Scope) (m : ℕ) (x : Scope) → (EdgeAt new j m x) ↔ (EdgeAt es j m x ⊎ ((j ≡ s) × ((m ≡ l) × (x ≡ t))))
+  edge_adds l t h j m x = rw h.3 (at_adds scope_cmp scope_total equal_scope es ok.keys_rise s h.0 h.1 (there h.0 h.1 h.2 h.3) (λ (y : PlaceOf D). HasTarget y m x) ((m ≡ l) × (x ≡ t)) ((h.4).targets m x) j)
+
+  pub edge_written : (l : ℕ) (t : Scope) → ChangesPlace (λ p q. AddsTarget p q l t) es new s → (rest more : List Edge) → more ≡ cond (is_given (seen es made rest).graph t) rest (put edge_cmp rest (an_edge s l t)) → seen new made more ≡ with_edge (seen es made rest) (an_edge s l t)
+  edge_written l t h rest more e =
       let after = changed_places es s ok (λ p q. AddsTarget p q l t) new h in
-      held_by (seen new made) (with_edge (seen es made) (an_edge s l t)) (keys_stay h.0 h.1 h.2 h.3)
-      (more_edges es new ok after s l t (λ j m x. rw h.3 (at_adds scope_cmp scope_total equal_scope es ok.keys_rise s h.0 h.1 (there h.0 h.1 h.2 h.3) (λ (y : PlaceOf D). HasTarget y m x) ((m ≡ l) × (x ≡ t)) ((h.4).targets m x) j)))
+      held_by (seen new made more) (with_edge (seen es made rest) (an_edge s l t)) (keys_stay h.0 h.1 h.2 h.3)
+      (more_edges es new ok after s l t (edge_adds l t h))
       (same_given es new ok after (λ j d. keeps_slots h.0 h.1 h.2 h.3 (h.4).slot j (Given d)))
       (same_holds es new ok after (keeps_holds h.0 h.1 h.2 h.3 (h.4).holders))
       (same_data es new ok after (λ j u. keeps_slots h.0 h.1 h.2 h.3 (h.4).slot j (Waits u)))
       refl
+      e
 
-  pub row_closed : (l u : ℕ) → ChangesPlace (λ p q. LosesHolder p q l u) es new s → seen new made ≡ without_row (seen es made) u s l
-  row_closed l u h =
+  pub row_closed : (rest : List Edge) (l u : ℕ) → ChangesPlace (λ p q. LosesHolder p q l u) es new s → seen new made rest ≡ without_row (seen es made rest) u s l
+  row_closed rest l u h =
       let after = changed_places es s ok (λ p q. LosesHolder p q l u) new h in
-      held_by (seen new made) (without_row (seen es made) u s l) (keys_stay h.0 h.1 h.2 h.3)
+      held_by (seen new made rest) (without_row (seen es made rest) u s l) (keys_stay h.0 h.1 h.2 h.3)
       (same_edges es new ok after (keeps_edges h.0 h.1 h.2 h.3 (h.4).targets))
       (same_given es new ok after (λ j d. keeps_slots h.0 h.1 h.2 h.3 (h.4).slot j (Given d)))
       (less_holds es new ok after (λ k. not (is_row_hold u s l k)) (λ j m v.
@@ -215,20 +175,31 @@ module _ {D : Type 0} (es new : List (Scope × PlaceOf D)) (made : List ℕ) (s 
       )))
       (same_data es new ok after (λ j u. keeps_slots h.0 h.1 h.2 h.3 (h.4).slot j (Waits u)))
       refl
+      refl
 
-  pub datum_written : (u : ℕ) (d : D) → SlotAt es s (Waits u) → ChangesPlace (λ p q. q ≡ record { rows = p.rows; slot = Given d }) es new s → seen new made ≡ with_datum (seen es made) u s d
-  datum_written u d held h =
+  given_adds : (u : ℕ) (d : D) → SlotAt es s (Waits u) → ChangesPlace (λ p q. q ≡ record { rows = p.rows; slot = Given d }) es new s → (j : Scope) (e : D) → (SlotAt new j (Given e)) ↔ (SlotAt es j (Given e) ⊎ ((j ≡ s) × (e ≡ d)))
+  given_adds u d held h j e =
+      let at = there h.0 h.1 h.2 h.3 in
+      let was : (h.0).slot ≡ Waits u = at_here scope_cmp scope_total equal_scope es ok.keys_rise s h.0 h.1 at (λ (y : PlaceOf D). y.slot ≡ Waits u) held in
+      let now : (h.1).slot ≡ Given d = ap (λ (y : PlaceOf D). y.slot) h.4 in
+      rw h.3 (at_adds scope_cmp scope_total equal_scope es ok.keys_rise s h.0 h.1 at (λ (y : PlaceOf D). y.slot ≡ Given e) (e ≡ d)
+      ((λ g. inr (given_one e d (sym g ∙ now))), (λ a. elim a [ inl g ↦ absurd (cc) | inr x ↦ now ∙ ap (λ (z : D). Given z) (sym x) ])) j)
+    where
+      given_one : (a b : D) → Given a ≡ Given b → a ≡ b
+      given_one a b e = cc
+
+  pub datum_written : (rest : List Edge) (u : ℕ) (d : D) → SlotAt es s (Waits u) → ChangesPlace (λ p q. q ≡ record { rows = p.rows; slot = Given d }) es new s → seen new made rest ≡ with_datum (seen es made rest) u s d
+  datum_written rest u d held h =
       let after = changed_places es s ok (λ p q. q ≡ record { rows = p.rows; slot = Given d }) new h in
       let at = there h.0 h.1 h.2 h.3 in
       let was : (h.0).slot ≡ Waits u = at_here scope_cmp scope_total equal_scope es ok.keys_rise s h.0 h.1 at (λ (y : PlaceOf D). y.slot ≡ Waits u) held in
       let now : (h.1).slot ≡ Given d = ap (λ (y : PlaceOf D). y.slot) h.4 in
       let rows : (h.1).rows ≡ (h.0).rows = ap (λ (y : PlaceOf D). y.rows) h.4 in
-      held_by (seen new made) (with_datum (seen es made) u s d) (keys_stay h.0 h.1 h.2 h.3)
+      held_by (seen new made rest) (with_datum (seen es made rest) u s d) (keys_stay h.0 h.1 h.2 h.3)
       (same_edges es new ok after (keeps_edges h.0 h.1 h.2 h.3 (λ m t. rw rows ((λ a. a), (λ a. a)))))
       (more_given es new ok after s d
       (λ e k. (let g : (h.0).slot ≡ Given e = at_here scope_cmp scope_total equal_scope es ok.keys_rise s h.0 h.1 at (λ (y : PlaceOf D). y.slot ≡ Given e) k in cc))
-      (λ j e. rw h.3 (at_adds scope_cmp scope_total equal_scope es ok.keys_rise s h.0 h.1 at (λ (y : PlaceOf D). y.slot ≡ Given e) (e ≡ d)
-      ((λ g. inr (given_one e d (sym g ∙ now))), (λ a. elim a [ inl g ↦ absurd (cc) | inr x ↦ now ∙ ap (λ (z : D). Given z) (sym x) ])) j)))
+      (given_adds u d held h))
       (same_holds es new ok after (keeps_holds h.0 h.1 h.2 h.3 (λ m v. rw rows ((λ a. a), (λ a. a)))))
       (less_data es new ok after (λ k. not (is_datum_hold u s k)) (λ j v.
       let change = at_changes scope_cmp scope_total equal_scope es ok.keys_rise s h.0 h.1 at (λ (y : PlaceOf D). y.slot ≡ Waits v) (λ (i : Scope). (i ≡ s) × (v ≡ u) → ⊥)
@@ -238,10 +209,8 @@ module _ {D : Type 0} (es new : List (Scope × PlaceOf D)) (made : List ℕ) (s 
         (λ a. change.1 ((λ e. not_of (is_datum_hold u s (a_datum_hold j v)) a.0 (the_datum_hold_is u s (a_datum_hold j v) e.1 e.0)), a.1)),
       )))
       refl
+      refl
     where
-      given_one : (a b : D) → Given a ≡ Given b → a ≡ b
-      given_one a b e = cc
-
       waits_one : {D : Type 0} (a b : ℕ) → (let x : Slot D = Waits a in x) ≡ Waits b → a ≡ b
       waits_one {D} a b e = cc
 
@@ -278,3 +247,16 @@ module _ {D : Type 0} (es new : List (Scope × PlaceOf D)) (made : List ℕ) (s 
           | inl o ↦ o.1
           | inr e ↦ absurd (let k = sym e.1 ∙ now in cc)
         ])
+
+  -- ---- the parts stay, with the new target
+  module _ (key : D → ℕ) (ps : List (Part × List Scope)) (parts : AreParts key es ps) where
+    pub edge_parts : (l : ℕ) (t : Scope) → ChangesPlace (λ p q. AddsTarget p q l t) es new s → (EdgeAt es s l t → ⊥) → (p : Part) (qs : List (Part × List Scope)) → IsPartOf key es s l t p → AddsIn ps qs p t → AreParts key new qs
+    edge_parts l t h none p qs is more = parts_more key es ps parts s l t new none (edge_adds l t h) (keeps_slots h.0 h.1 h.2 h.3 (h.4).slot) p qs is more
+
+    pub close_parts : (l u : ℕ) → ChangesPlace (λ p q. LosesHolder p q l u) es new s → AreParts key new ps
+    close_parts l u h = parts_after key es ps parts new (keeps_edges h.0 h.1 h.2 h.3 (h.4).targets) (λ t d k. (keeps_slots h.0 h.1 h.2 h.3 (h.4).slot t (Given d)).1 k)
+
+    pub datum_parts : (u : ℕ) (d : D) → SlotAt es s (Waits u) → ChangesPlace (λ p q. q ≡ record { rows = p.rows; slot = Given d }) es new s → AreParts key new ps
+    datum_parts u d held h =
+        let rows : (h.1).rows ≡ (h.0).rows = ap (λ (y : PlaceOf D). y.rows) h.4 in
+        parts_after key es ps parts new (keeps_edges h.0 h.1 h.2 h.3 (λ m t. rw rows ((λ a. a), (λ a. a)))) (λ t e k. (given_adds u d held h t e).1 (inl k))

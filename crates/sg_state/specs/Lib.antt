@@ -2,7 +2,9 @@ pub mod DatumState
 pub mod Held
 pub mod Need
 pub mod Opening
+pub mod Part
 pub mod Place
+pub mod Rest
 pub mod Slot
 pub mod View
 pub mod Write

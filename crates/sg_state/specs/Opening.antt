@@ -1,11 +1,11 @@
 -- Openings: the graph with which a run begins, and who holds what there.
-use Rattle.std.specs.Prelude.{◌≡◌, ℕ, ◌-◌, ◌<◌, ◌^◌, List, [], ◌++◌, map, length, replicate, fold, All}
+use Rattle.std.specs.Prelude.{◌≡◌, ℕ, ◌-◌, ◌<◌, ◌^◌, List, [], ◌++◌, map, length, replicate, fold, All, Bool, not}
 use Rattle.std.specs.Ordering.{on}
-use Rattle.std.specs.List.{Contains}
+use Rattle.std.specs.List.{Contains, filter, list_any}
 use Rattle.sg_base.specs.declared.scope.Scope.{Scope}
 use Rattle.sg_base.specs.Graph.{Edge, HasScope, edge_cmp}
 use Rattle.sg_base.specs.List.{IsDistinct}
-use Rattle.sg_base.specs.Scope.{scope_cmp}
+use Rattle.sg_base.specs.Scope.{is_scope, scope_cmp}
 use Rattle.sg_state.specs.declared.opening.Opening.{Opening}
 use Rattle.sg_state.specs.Held.{HeldOf, RowHold, DatumHold, IsHeld, put, row_hold_cmp, datum_hold_cmp}
 
@@ -59,7 +59,11 @@ pub record IsSoundOpening {D : Type 0} (o : OpeningOf D) : Type 0 where
   pub one_datum : IsDistinct (data_of o)
   pub few : o.units < nobody
 
--- the held graph of an opening
+-- whether the opening gives the scope a datum
+abbrev pub gives : {D : Type 0} → OpeningOf D → Scope → Bool
+gives o s = list_any (λ p. is_scope p.0 s) o.given
+
+-- the held graph of an opening, whose rest are the edges to scopes without a datum
 abbrev pub opened_of : {D : Type 0} → OpeningOf D → HeldOf D
 opened_of o = record {
   graph = record {
@@ -70,6 +74,7 @@ opened_of o = record {
   row_holds = fold (put row_hold_cmp) [] o.row_holds;
   datum_holds = fold (put datum_hold_cmp) [] o.datum_holds;
   made = replicate o.units 0;
+  rest = fold (put edge_cmp) [] (filter (λ e. not (gives o e.to)) o.edges);
 }
 
 -- a held graph with which a run begins: its scopes are nobody's, there are fewer units than nobody's number, and none has made a scope

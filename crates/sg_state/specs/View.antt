@@ -42,9 +42,9 @@ datum_hold_of s (Given d) = []
 datum_hold_of s (Waits u) = record { scope = s; unit = u } ∷ []
 datum_hold_of s Empty = []
 
--- what the scopes with their places, and the numbers of scopes made, say
-abbrev pub seen : {D : Type 0} → List (Scope × PlaceOf D) → List ℕ → HeldOf D
-seen ps made = record {
+-- what the scopes with their places, the numbers of scopes made and the rest say
+abbrev pub seen : {D : Type 0} → List (Scope × PlaceOf D) → List ℕ → List Edge → HeldOf D
+seen ps made rest = record {
   graph = record {
     scopes = map (λ p. p.0) ps;
     edges = flat_map edges_at ps;
@@ -53,6 +53,7 @@ seen ps made = record {
   row_holds = flat_map row_holds_at ps;
   datum_holds = flat_map (λ p. datum_hold_of p.0 (p.1).slot) ps;
   made = made;
+  rest = rest;
 }
 
 -- each scope stands once, in rising order, with what a scope may have

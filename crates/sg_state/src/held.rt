@@ -8,13 +8,15 @@ ghost use Rattle.sg_base.specs.Scope.{scope_cmp};
 ghost use Rattle.sg_base.specs.State.{IsOpen, IsUnset};
 ghost use Rattle.sg_state.specs.declared.need.Need.{Need as NeedOf};
 ghost use Rattle.sg_state.specs.DatumState.{IsDatumState};
-ghost use Rattle.sg_state.specs.Held.{IsHeld, HoldsRow, HoldsDatum, state_of, next_scope, with_no_scope, with_fresh, with_edge, with_datum, without_row, without_unit};
+ghost use Rattle.sg_state.specs.Held.{IsHeld, IsKeyed, IsRest, HoldsRow, HoldsDatum, state_of, next_scope, with_no_scope, with_fresh, with_edge, with_datum, without_row, without_unit};
 ghost use Rattle.sg_state.specs.Need.{need_cmp, HoldsAlone};
 ghost use Rattle.sg_state.specs.Opening.{IsSoundOpening, IsOpening, opening_of, opened_of};
 
 use crate::datum_state::DatumState;
 use crate::need::Need;
 use crate::opening::Opening;
+use crate::part::Part;
+use crate::parts::{Parts, part_of, parts_of};
 use crate::place::Place;
 use crate::places::{Places, leave_all};
 use crate::scope_list::ScopeList;
@@ -34,6 +36,7 @@ pub struct Held<I: Instance> {
     places: Places<I::Datum>,
     made: Vec<u32>,
     lists: BTreeMap<u32, ScopeList>,
+    parts: Parts,
 }
 
 impl<I: Instance> Model for Held<I> {
@@ -41,11 +44,12 @@ impl<I: Instance> Model for Held<I> {
 
     ghost Value = { HeldOf I.Datum };
 
+    ghost use Rattle.sg_state.specs.Part.{AreParts, rest_in};
     ghost use Rattle.sg_state.specs.View.{seen, IsKept};
 
-    ghost view = { λ h. seen h.places.entries h.made.items };
+    ghost view = { λ h. seen h.places.entries h.made.items (rest_in h.parts.entries) };
 
-    ghost invariant = { λ h. IsKept h.places.entries h.made.items h.lists.entries };
+    ghost invariant = { λ h. IsKept h.places.entries h.made.items h.lists.entries × AreParts I.datum_key h.places.entries h.parts.entries };
 }
 
 impl<I: Instance> Held<I> {
@@ -60,11 +64,13 @@ impl<I: Instance> Held<I> {
             places: Places::new(alloc),
             made,
             lists: BTreeMap::new(alloc),
+            parts: Parts::new(alloc),
         })
     }
 
-    /// The held graph of a sound opening. Costs look-ups for each thing that the opening lists, and moving the targets above
-    /// it in its row for each edge.
+    /// The held graph of a sound opening, whose edges to scopes without a datum are the rest of their rows. Costs look-ups
+    /// for each thing that the opening lists, for each edge moving the targets above it in its row and in its part of the
+    /// row, and for each hold of a row moving the units above it among the row's holders.
     pub fn open(alloc: Global, o: Opening<I::Datum>) -> Result<Held<I>, AllocError>
         requires sound { IsSoundOpening (opening_of o) }
         ensures opened { IfOk result (λ h. h ≡ opened_of (opening_of o)) }
@@ -77,16 +83,19 @@ impl<I: Instance> Held<I> {
         opened::add_row_holds(alloc, &mut places, &mut lists, &o.row_holds)?;
         opened::add_datum_holds(alloc, &mut places, &mut lists, &o.datum_holds)?;
         opened::add_given(&mut places, o.given);
+        let parts = parts_of::<I>(alloc, &places, &o.edges)?;
         Ok(Held {
             alloc,
             places,
             made,
             lists,
+            parts,
         })
     }
 
     /// Adds an edge to a row that the unit holds, in the time of look-ups, of a binary search in the row and of moving
-    /// its targets above the new one.
+    /// its targets above the new one. The target has a key from then on if it has a datum now, and is one of the rest of the
+    /// row for good if it has none.
     pub fn add_edge(
         &mut self,
         unit: u32,
@@ -101,8 +110,18 @@ impl<I: Instance> Held<I> {
         ensures err { OnErr result (self.new ≡ self.old) }
     {
         let label = l.number();
-        self.places.add_target(from, label, to)?;
-        Ok(())
+        if self.places.has_target(from, label, to) {
+            return Ok(());
+        }
+        let part = part_of::<I>(&self.places, from, label, to);
+        self.parts.put(self.alloc, part, to)?;
+        match self.places.add_target(from, label, to) {
+            Ok(()) => Ok(()),
+            Err(error) => {
+                self.parts.take(part, to);
+                Err(error)
+            }
+        }
     }
 
     /// Sets a datum that the unit holds, by a look-up.
@@ -146,6 +165,26 @@ impl<I: Instance> Held<I> {
             Some(row) => row.targets.as_slice(),
             None => &[],
         }
+    }
+
+    /// The targets of a row whose datum has this key, where the datum was there when the edge was added or at the
+    /// opening, in rising order, by a look-up.
+    pub fn row_keyed(&self, s: Scope, l: Label, key: u64) -> &[Scope]
+        ensures exact { (t : ScopeOf) → (Contains result.now t) ↔ (IsKeyed I.datum_key self.now s l key t) }
+        ensures rising { IsRising scope_cmp result.now }
+        ensures sound { IsHeld self.now }
+    {
+        self.parts.targets(Part::Keyed(s, l.number(), key))
+    }
+
+    /// The targets of a row that had no datum when the edge was added or at the opening, in rising order, by a look-up.
+    /// They and the targets of each key are the row.
+    pub fn row_rest(&self, s: Scope, l: Label) -> &[Scope]
+        ensures exact { (t : ScopeOf) → (Contains result.now t) ↔ (IsRest self.now s l t) }
+        ensures rising { IsRising scope_cmp result.now }
+        ensures sound { IsHeld self.now }
+    {
+        self.parts.targets(Part::Rest(s, l.number()))
     }
 
     /// The units that hold a row in rising order, by look-ups.

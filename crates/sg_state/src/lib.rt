@@ -14,6 +14,8 @@ mod lists;
 mod need;
 mod opened;
 mod opening;
+mod part;
+mod parts;
 mod place;
 mod places;
 mod row;

@@ -1,6 +1,6 @@
 //! The scopes of a held graph with what they have, and what changes at one of them.
 
-ghost use Rattle.std.specs.Prelude.{◌≡◌, ◌<◌, ◌⊎◌, ◌↔◌, [], map, None, IfSome, IfNone, OnOk, OnErr};
+ghost use Rattle.std.specs.Prelude.{◌≡◌, ◌<◌, ◌⊎◌, ◌↔◌, [], map, None, IsTrue, IfSome, IfNone, OnOk, OnErr};
 ghost use Rattle.std.specs.BTreeMap.{is_at, insert_entry};
 ghost use Rattle.std.specs.List.{Contains};
 ghost use Rattle.std.specs.Map.{lookup};
@@ -8,7 +8,7 @@ ghost use Rattle.sg_base.specs.declared.scope.Scope.{Scope as ScopeOf};
 ghost use Rattle.sg_base.specs.List.{IsDistinct, IsRising};
 ghost use Rattle.sg_base.specs.Scope.{scope_cmp};
 ghost use Rattle.sg_state.specs.Place.{PlaceOf, AddsTarget, AddsHolder, LosesHolder, LosesUnit};
-ghost use Rattle.sg_state.specs.View.{ArePlaces, ChangesPlace, HasKey, RowAt, RowIs, SlotAt, LeavesAll};
+ghost use Rattle.sg_state.specs.View.{ArePlaces, ChangesPlace, EdgeAt, HasKey, RowAt, RowIs, SlotAt, LeavesAll};
 
 use crate::place::Place;
 use crate::row::Row;
@@ -175,6 +175,17 @@ impl<D> Places<D> {
         match self.found.get(&s) {
             Some(place) => place.row(label),
             None => None,
+        }
+    }
+
+    /// Whether a row has this target, by look-ups and a binary search in the row.
+    pub fn has_target(&self, s: Scope, label: u8, to: Scope) -> bool
+        requires places { ArePlaces self.now.entries }
+        ensures { IsTrue result ↔ EdgeAt self.now.entries s label to }
+    {
+        match self.row(s, label) {
+            Some(row) => row.targets.contains(to),
+            None => false,
         }
     }
 

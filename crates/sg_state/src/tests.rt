@@ -60,6 +60,8 @@ impl Instance for Numbers {
     } };
 
     ghost keyed = { λ p d k e t. Prim.grind (arith, nat_tests) };
+
+    ghost one_key = { λ a b h. Prim.grind (arith, nat_tests) };
 }
 
 /// The first unit that holds a row.
@@ -161,6 +163,7 @@ fn changed(alloc: Global, change: u32) -> Result<Opening<u64>, AllocError> {
         11 => o.datum_holds.push((0, scope(1)))?,
         12 => o.datum_holds.push((0, scope(0)))?,
         13 => o.units = u32::MAX,
+        14 => o.edges.push((scope(1), label, scope(0)))?,
         _ => {}
     }
     Ok(o)
@@ -280,5 +283,36 @@ fn a_graph_is_copied(rt: HostRuntime) -> Result<(), Fail> {
     assert_eq!(rt; graph.edges_of(second, label), [].as_slice());
     assert!(rt; matches!(graph.datum(first), Some(7)));
     assert!(rt; graph.datum(second).is_none());
+    Ok(())
+}
+
+#[test]
+fn a_target_is_keyed_by_the_datum_that_it_has(rt: HostRuntime) -> Result<(), Fail> {
+    let label = Label::new(3);
+    let first = scope(0);
+    let second = scope(1);
+    let o = changed(rt.alloc(), 14)?;
+    let sound = o.is_sound();
+    assert!(rt; sound);
+    let mut held = Held::<Numbers>::open(rt.alloc(), o)?;
+    assert_eq!(rt; held.row_keyed(second, label, 7), [first].as_slice());
+    assert_eq!(rt; held.row_rest(second, label), [].as_slice());
+    assert_eq!(rt; held.row_rest(first, label), [second].as_slice());
+    match first_holder(&held, first, label) {
+        Some(unit) => {
+            if held.has_scope(first) {
+                held.add_edge(unit, first, label, first)?;
+            }
+        }
+        None => {}
+    }
+    match held.datum_holder(second) {
+        Some(unit) => held.set_datum(unit, second, 7),
+        None => {}
+    }
+    assert_eq!(rt; held.row(first, label), [first, second].as_slice());
+    assert_eq!(rt; held.row_keyed(first, label, 7), [first].as_slice());
+    assert_eq!(rt; held.row_keyed(first, label, 8), [].as_slice());
+    assert_eq!(rt; held.row_rest(first, label), [second].as_slice());
     Ok(())
 }

@@ -110,8 +110,9 @@ module _ {S E R : Type 0} (entries : S → List E) (root : S → R) (teller : E 
         → SeatKnows entries root teller base log vs i v → w.number ≡ v.number → w.root ≡ v.root → w.made ≡ v.made → Begins w.seen log' → told_by teller v.number log' ≡ w.mine
         → (SeatKnows entries root teller base log' (set vs i w) i w → Knows entries root teller base seats log' next' serving' (set vs i w) i w w.stage)
         → ((t : ℕ) → Has w.stage t → Has v.stage t ⊎ (next ≤ t))
+        → ((t : ℕ) → serving' ≤ t → t < next' → Has w.stage t ⊎ ((serving ≤ t) × (t < next) × ¬ (Has v.stage t)))
         → IsRuled entries root teller base seats log' next' serving' (set vs i w) home'
-    moved home home' r order short drawn place seat number rooted made sees owns knows fresh = let mine = knows record {
+    moved home home' r order short drawn place seat number rooted made sees owns knows fresh out = let mine = knows record {
       numbered = number ∙ seat.numbered;
       rooted = rooted ∙ seat.rooted;
       begins = sees;
@@ -128,6 +129,11 @@ module _ {S E R : Type 0} (entries : S → List E) (root : S → R) (teller : E 
       strangers = λ n h. let s = length-set vs i w in let b = at_below vs i v at in others n (λ e. omega arith) ∙ r.strangers n (omega arith);
       each = each_set (λ j x. Knows entries root teller base seats log' next' serving' (set vs i w) j x x.stage) vs i w mine
           (λ j x not there. knows_stays j x not (λ t h h'. not (r.apart j i t x v there at h h')) x.stage refl (r.each j x there));
+      held = λ t a b. ⊎_elim
+          (λ (h : Has w.stage t). (i, w, set_here vs i w (at_below vs i v at), h))
+          (λ (h : (serving ≤ t) × (t < next) × ¬ (Has v.stage t)). let there = r.held t h.0 h.1 in
+          (there.0, there.1, set_else vs i there.0 w (λ e. h.2 (subst (λ (z : View E R). Has z.stage t) (same_at vs i there.1 v (subst (λ (z : ℕ). get_elem? vs z ≡ maybe.some there.1) e there.2) at) there.3)) ∙ there.2, there.3))
+          (out t a b);
       apart = λ a b t x y ea eb ha hb. ⊎_elim
           (λ (ta : (a ≡ i) × (w ≡ x)). ⊎_elim (λ (tb : (b ≡ i) × (w ≡ y)). ta.0 ∙ sym tb.0)
           (λ (tb : (b ≢ i) × (get_elem? vs b ≡ maybe.some y)). absurd (clash_at log next serving vs home r i v at b y t tb.0 tb.1 hb (fresh t (subst (λ (z : View E R). Has z.stage t) (sym ta.1) ha)))) (at_set vs i b w y eb))
@@ -203,6 +209,8 @@ module _ {S E R : Type 0} (entries : S → List E) (root : S → R) (teller : E 
                 kept = λ n es q h. absurd (some-ne-none (n, es) (sym h));
               })
               (at_end (set vs id left) right x j e);
+          held = λ t a b. let there = r.ruled.held t a b in
+              (there.0, there.1, before there.0 there.1 (λ e. no_ticket k.stage t free (subst (λ (z : W). Has z.stage t) (same_at vs id there.1 k (subst (λ (z : ℕ). get_elem? vs z ≡ maybe.some there.1) e there.2) at) there.3)) there.2, there.3);
           apart = λ i j t v w ei ej hi hj. let had : (j : ℕ) (x : W) → get_elem? vs' j ≡ maybe.some x → Has x.stage t → get_elem? vs j ≡ maybe.some x = λ j x e h. ⊎_elim
               (λ (e' : get_elem? (set vs id left) j ≡ maybe.some x). ⊎_elim (λ (a : (j ≡ id) × (left ≡ x)). absurd (no_ticket k.stage t free (subst (λ (z : W). Has z.stage t) (sym a.1) h))) (λ (a : (j ≢ id) × (get_elem? vs j ≡ maybe.some x)). a.1) (at_set vs id j left x e'))
               (λ (e' : (j ≡ length (set vs id left)) × (right ≡ x)). absurd (subst (λ (z : W). Has z.stage t) (sym e'.1) h)) (at_end (set vs id left) right x j e) in
@@ -258,6 +266,14 @@ module _ {S E R : Type 0} (entries : S → List E) (root : S → R) (teller : E 
                 kept = λ n es q h. at_both P ((w.number, w.mine) ∷ k.kept) w.kept (at_both P ((w.number, w.mine) ∷ []) k.kept (λ q z h. subst P (at_one (w.number, w.mine) z q h) new) (kept k.kept known.kept)) (kept w.kept seat.kept) q (n, es) h;
               })
               (λ i y not e. knows_via r.log r.next r.serving vs two i y (λ o. record { numbered = o.numbered; rooted = o.rooted; begins = o.begins; own = o.own; maker = maker y.made i o.maker; kept = λ n es q h. kept y.kept o.kept q (n, es) h }) y.stage (r.ruled.each i y e)) j x e);
+          held = λ t a b. let h = r.ruled.held t a b in (
+            h.0,
+            h.1,
+            before h.0 h.1
+                (λ e. no_ticket k.stage t free (subst (λ (z : W). Has z.stage t) (same_at vs id h.1 k (subst (λ (z : ℕ). get_elem? vs z ≡ maybe.some h.1) e h.2) at) h.3))
+                (λ e. no_ticket w.stage t free' (subst (λ (z : W). Has z.stage t) (same_at vs other h.1 w (subst (λ (z : ℕ). get_elem? vs z ≡ maybe.some h.1) e h.2) there') h.3)) h.2,
+            h.3,
+          );
           apart = λ i j t v x ei ej hi hj. let had : (j : ℕ) (x : W) → get_elem? two j ≡ maybe.some x → Has x.stage t → get_elem? vs j ≡ maybe.some x = λ j x e h. ⊎_elim
               (λ (a : (j ≡ other) × (joined_view ≡ x)). absurd (subst (λ (z : W). Has z.stage t) (sym a.1) h))
               (λ (a : (j ≢ other) × (get_elem? one j ≡ maybe.some x)). ⊎_elim (λ (b : (j ≡ id) × (both ≡ x)). absurd (no_ticket k.stage t free (subst (λ (z : W). Has z.stage t) (sym b.1) h))) (λ (b : (j ≢ id) × (get_elem? vs j ≡ maybe.some x)). b.1) (at_set vs id j both x a.1)) (at_set one other j joined_view x e) in
@@ -283,7 +299,8 @@ module _ {S E R : Type 0} (entries : S → List E) (root : S → R) (teller : E 
       (λ t free a b. (a, omega arith)) (λ t free a b. (a, omega arith, refl)) r.home r.home u (omega arith) u.short (omega arith)
       (place_longer r.log r.next r.serving s.views (set s.views id w) r.home (λ j x e inside. set_else s.views id j w (λ same. let f : v ≡ x = same_at s.views id v x at (subst (λ (z : ℕ). get_elem? s.views z ≡ maybe.some x) same e) in let g : v.stage ≡ x.stage = ap (λ (z : W). z.stage) f in cc) ∙ e) u.place)
       seat refl refl refl seat.begins seat.own (λ k. (k, order, omega arith))
-      (λ t (h : r.next ≡ t). inr (omega arith)) in
+      (λ t (h : r.next ≡ t). inr (omega arith))
+      (λ t a b. dite (ℕ_discrete r.next t) (λ e. inl e) (λ n. inr (a, omega arith, (λ h. subst (λ (z : Stage). Has z t) out h)))) in
       at_table s r id 0 me (λ n. (n + 1) % 2 ^ 64) (Draws nothing me) (w, keeps, tt, record { log = r.log; next = r.next + 1; serving = r.serving; home = r.home; words = ap (λ (z : ℕ). z ∷ r.serving ∷ []) fits; slots = refl; ruled = new }, refl)
 
   -- the value is at home where the served ticket is one that waits
@@ -317,7 +334,8 @@ module _ {S E R : Type 0} (entries : S → List E) (root : S → R) (teller : E 
               (let d : draw_count v ≡ 1 = ap draws_at is in omega arith)
               (id, w, here, ap Inside (sym hit))
               seat refl refl refl ([], sym (append-nil (entries x) ∙ there.2)) seat.own (λ k. (k, sym hit, b, there.2))
-              (λ z h. inl (subst (λ (q : Stage). Has q z) (sym is) h));
+              (λ z h. inl (subst (λ (q : Stage). Has q z) (sym is) h))
+              (λ z a b. dite (ℕ_discrete t z) (λ e. inl e) (λ n. inr (a, b, (λ h. n (subst (λ (q : Stage). Has q z) is h)))));
         },
         λ t' is''. let e : t ≡ t' = own t' (sym is ∙ is'') in (
           (λ r_is. record { value = x; view = ap (λ (z : ℕ). record v { stage = Inside z; seen = entries x }) e; slot = refl; begins = subst (Begins v.seen) (sym there.2) seat.begins; own = ap (told_by teller v.number) there.2 ∙ seat.own; rooted = seat.rooted ∙ ap Some (sym there.3) }),
@@ -358,7 +376,8 @@ module _ {S E R : Type 0} (entries : S → List E) (root : S → R) (teller : E 
         slots = refl;
         ruled = moved r.log (entries x) r.next r.serving r.next (r.serving + 1) vs id v w at (ap live_at is) is_live seat.numbered kept begins others
             (λ z free a b. let o = others_wait z free in (omega arith, b)) (λ z free a b. absurd (others_wait z free (a ∙ sym now))) r.home (maybe.some (Some x)) u (omega arith) short (omega arith)
-            (x, refl, refl, base_is) seat number rooted made sees owns (λ k. seat_knows (entries x) r.next (r.serving + 1) (set vs id w) id w w.stage free k) (λ z h. absurd (no_ticket w.stage z free h));
+            (x, refl, refl, base_is) seat number rooted made sees owns (λ k. seat_knows (entries x) r.next (r.serving + 1) (set vs id w) id w w.stage free k) (λ z h. absurd (no_ticket w.stage z free h))
+            (λ z a b. inr (omega arith, b, (λ h. let e : t ≡ z = subst (λ (q : Stage). Has q z) is h in omega arith)));
       } in
       ⊎_elim
       (λ (same : entries x ≡ v.seen). let w : W = record v { stage = Spent } in let is_log : entries x ≡ r.log = same ∙ seen in let size = ap length is_log in

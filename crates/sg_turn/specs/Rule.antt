@@ -56,7 +56,9 @@ module _ {S E R : Type 0} (entries : S → List E) (root : S → R) (teller : E 
       -- no entry names a seat that was not made
       pub strangers : (n : ℕ) → length views ≤ n → told_by teller n log ≡ []
       pub each : (j : ℕ) (v : View E R) → get_elem? views j ≡ maybe.some v → Knows j v v.stage
-      -- a ticket is held by one seat
+      -- each ticket that is out is held by a seat
+      pub held : (t : ℕ) → serving ≤ t → t < next → (j : ℕ) × (v : View E R) × (get_elem? views j ≡ maybe.some v) × Has v.stage t
+      -- and by no other
       pub apart : (i j t : ℕ) (v w : View E R) → get_elem? views i ≡ maybe.some v → get_elem? views j ≡ maybe.some w → Has v.stage t → Has w.stage t → i ≡ j
 
   -- the rule of the table of a lock, whose value was made with the root `base`, and which has so many seats at most

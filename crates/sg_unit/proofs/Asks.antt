@@ -1,5 +1,5 @@
 -- Open and ready asks in a run.
-use Rattle.std.proofs.Common.{◌≡◌, ℕ, List, [], ◌∷◌, ◌⊎◌, Bool, eqb, cond, inl, inr, refl, sym, ap, subst}
+use Rattle.std.proofs.Common.{◌≡◌, ℕ, ◌<◌, List, [], ◌∷◌, ◌⊎◌, Bool, eqb, cond, inl, inr, refl, sym, ap, subst, length}
 use Rattle.std.proofs.lemmas.Bool.{cases_Bool}
 use Rattle.sg_base.specs.Graph.{HasScope}
 use Rattle.sg_query.specs.declared.answer.Answer.{Answer}
@@ -60,10 +60,11 @@ module _ {I R D P : Type 0} where
   made_for a Take y q e = absurd e
   made_for a (End x) y q e = inl e
 
--- the starts of asks are there, and what is ready is settled
+-- the starts of asks are there, their kinds are in the table, and what is ready is settled
 pub record IsAskedRun {D P : Type 0} (z : Setting D P) (r : RunOf D P) : Type 0 where
   pub sound : IsSoundRun z r
   pub starts : (u : ℕ) (q : Query P) → IsFor (r.asks u) q → HasScope r.held.graph q.start
+  pub kinds : (u : ℕ) (q : Query P) → IsFor (r.asks u) q → q.kind < length z.kinds
   pub settled : (u : ℕ) (q : Query P) → r.asks u ≡ ready_ask q → IsSettled (state_of r.held) (asked_by z q)
 
 pub ready_for : {P : Type 0} (a : Asking P) (q : Query P) → a ≡ ready_ask q → IsFor a q
@@ -76,6 +77,13 @@ module _ {I R D P : Type 0} (z : Setting D P) where
         | inl k ↦ (op_follows z r ok.sound u op s.may).extends.scopes q.start (ok.starts u q k)
         | inr e ↦ let o : Op I R D P = Ask q in let m : May z r u o = subst (λ (x : Op I R D P). May z r u x) e s.may in
             (op_follows z r ok.sound u op s.may).extends.scopes q.start (m.1).2
+      ]
+
+  own_kind : (r : RunOf D P) → IsAskedRun z r → (u : ℕ) (op : Op I R D P) (y : Reply I D P) → IsStep z r (record { unit = u; op = op; reply = y }) → (q : Query P) → IsFor (ask_after (r.asks u) op y) q → q.kind < length z.kinds
+  own_kind r ok u op y s q f =
+      elim (made_for (r.asks u) op y q f) [
+        | inl k ↦ ok.kinds u q k
+        | inr e ↦ let o : Op I R D P = Ask q in let m : May z r u o = subst (λ (x : Op I R D P). May z r u x) e s.may in (m.1).1
       ]
 
   still_settled : (r : RunOf D P) → IsAskedRun z r → (u : ℕ) (op : Op I R D P) → May z r u op → (v : ℕ) (q : Query P) → IsFor (r.asks v) q → IsSettled (state_of r.held) (asked_by z q) → IsSettled (state_of (held_after r.held u op)) (asked_by z q)
@@ -106,6 +114,13 @@ module _ {I R D P : Type 0} (z : Setting D P) where
                   let other : IsFor (r.asks u) q = subst (λ (c : Bool). IsFor (cond c (ask_after (r.asks u) e.op e.reply) (r.asks u)) q) b f in
                   (op_follows z r ok.sound e.unit e.op s.may).extends.scopes q.start (ok.starts u q other)
             ];
+        kinds = λ u q f.
+            elim (cases_Bool (eqb e.unit u)) [
+              | inl b ↦
+                  let own : IsFor (ask_after (r.asks u) e.op e.reply) q = subst (λ (c : Bool). IsFor (cond c (ask_after (r.asks u) e.op e.reply) (r.asks u)) q) b f in
+                  own_kind r ok e.unit e.op e.reply s q (subst (λ (n : ℕ). IsFor (ask_after (r.asks n) e.op e.reply) q) (sym (is_num e.unit u b)) own)
+              | inr b ↦ ok.kinds u q (subst (λ (c : Bool). IsFor (cond c (ask_after (r.asks u) e.op e.reply) (r.asks u)) q) b f)
+            ];
         settled = λ u q f.
             elim (cases_Bool (eqb e.unit u)) [
               | inl b ↦
@@ -122,7 +137,7 @@ module _ {I R D P : Type 0} (z : Setting D P) where
   run_asked r ok (e ∷ es) s = run_asked (after r e) (step_asked r ok e s.0) es s.1
 
 pub opened_asked : {D P : Type 0} (z : Setting D P) → IsOpening z.opening → IsAskedRun z (opened z)
-opened_asked z ok = record { sound = opened_sound z ok; starts = λ u q f. absurd f; settled = λ u q f. absurd (cc) }
+opened_asked z ok = record { sound = opened_sound z ok; starts = λ u q f. absurd f; kinds = λ u q f. absurd f; settled = λ u q f. absurd (cc) }
 
 pub answers_last : (I R D P : Type 0) → AnswersLast I R D P
 answers_last I R D P z log more u a q ok run is_ready =

@@ -9,9 +9,9 @@ use Rattle.sg_unit.specs.declared.op.Op.{Op}
 use Rattle.sg_unit.specs.declared.op.Op.TheVariants.{Fresh, AddEdge, SetDatum, CloseRow, Ask, Advance, Take, End}
 use Rattle.sg_unit.specs.declared.reply.Reply.{Reply}
 use Rattle.sg_unit.specs.declared.reply.Reply.TheVariants.{Made, Done, Moved, Ready, Answer as Answered}
-use Rattle.sg_unit.specs.Example.{corner, corner_query, one_step, pair, AskerStands, IsAskersEdge, MakerStands, desk_reply}
+use Rattle.sg_unit.specs.Example.{corner, corner_query, one_step, pair, pair_setting, AskerStands, IsAskersEdge, MakerStands, desk_reply}
 use Rattle.sg_unit.specs.Honest.{Gave, GivesResults}
-use Rattle.sg_unit.specs.Own.{IsProgress, IsLast, CanReply}
+use Rattle.sg_unit.specs.Own.{IsAdvanceReply, IsEndReply, CanReply}
 use Rattle.sg_unit.specs.Run.{Setting, RunOf}
 use Rattle.sg_unit.specs.Trace.{Past, with_last, MayGive, IsHanded}
 use Rattle.sg_unit.specs.Unit.{setting_of, CanBeHanded, GoesOn, GivesOwed}
@@ -19,9 +19,6 @@ use Rattle.sg_unit.specs.Unit.{setting_of, CanBeHanded, GoesOn, GivesOwed}
 -- what holds at these holds at what equals them
 at : {X Y : Type 0} (C : X → Y → Type 0) (a : X) (b : Y) → C a b → (x : X) (y : Y) → (x ≡ a) × (y ≡ b) → C x y
 at {X} {Y} C a b c x y e = subst (λ (v : X). C v y) (sym e.0) (subst (λ (w : Y). C a w) (sym e.1) c)
-
-abbrev pair_setting : {D P : Type 0} → (P → D → Bool) → (D → D → Bool) → Setting D P
-pair_setting wants same = setting_of wants same pair one_step
 
 holds_edge : (D : Type 0) → HoldsRow (pair {D = D}) 1 corner 0
 holds_edge D = Contains-head (let k : RowHold = record { scope = corner; label = 0; unit = 1 } in k) []
@@ -289,6 +286,6 @@ module _ {I R D P : Type 0} where
   desk_can_reply r u (SetDatum s d) y e = ([], some_reply (Done []) y e)
   desk_can_reply r u (CloseRow s l) y e = ([], some_reply (Done []) y e)
   desk_can_reply r u (Ask q) y e = some_reply Moved y e
-  desk_can_reply r u Advance y e = subst IsProgress (sym (some_reply Ready y e)) tt
+  desk_can_reply r u Advance y e = subst IsAdvanceReply (sym (some_reply Ready y e)) tt
   desk_can_reply r u Take y e = (TooMany, some_reply (Answered TooMany) y e)
-  desk_can_reply r u (End x) y e = subst IsLast (sym (some_reply (Done []) y e)) tt
+  desk_can_reply r u (End x) y e = subst IsEndReply (sym (some_reply (Done []) y e)) tt

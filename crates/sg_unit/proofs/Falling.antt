@@ -9,8 +9,7 @@ use Rattle.sg_base.specs.Label.{Word}
 use Rattle.sg_base.specs.Path.{reached_by, word_of}
 use Rattle.sg_base.specs.State.{State}
 use Rattle.sg_base.proofs.Finite.{nothing_in, Contains-head, Contains-tail, Contains-cons, map-Contains, flat_map-Contains, each_at, pigeons}
-use Rattle.sg_expr.specs.declared.expr.Expr.{Expr}
-use Rattle.sg_expr.specs.declared.expr.Expr.TheVariants.{Nothing, Empty, One, Seq', Alt', Star'}
+use Rattle.sg_expr.specs.Tree.{ExprOf, no_word, empty_word, one_label, in_turn, either_of, repeated}
 use Rattle.sg_expr.specs.Word.{In, IsViable, EachWord}
 use Rattle.sg_query.specs.Query.{Asked}
 use Rattle.sg_query.specs.State.{Item, next, whole, IsItem}
@@ -33,23 +32,23 @@ chain : (A : Word → Type 0) (ks : List ℕ) → ((w : Word) → A w → (l : �
 chain A ks f [] e l k = absurd (nothing_in l k)
 chain A ks f (x ∷ ws) e l k = elim (Contains-append_cases x (concat ws) l k) [ inl h ↦ f x e.0 l h | inr h ↦ chain A ks f ws e.1 l h ]
 
-in_letters : (e : Expr) (w : Word) → In e w → (l : ℕ) → Contains w l → Contains (letters e) l
-in_letters Nothing w i l c = absurd i
-in_letters Empty w i l c = absurd (nothing_in l (subst (λ (x : Word). Contains x l) i c))
-in_letters (One k) w i l c = subst (λ (x : Word). Contains x l) i c
-in_letters (Seq' p a q b) w i l c =
+in_letters : (e : ExprOf) (w : Word) → In e w → (l : ℕ) → Contains w l → Contains (letters e) l
+in_letters no_word w i l c = absurd i
+in_letters empty_word w i l c = absurd (nothing_in l (subst (λ (x : Word). Contains x l) i c))
+in_letters (one_label k) w i l c = subst (λ (x : Word). Contains x l) i c
+in_letters (in_turn a b) w i l c =
     elim (Contains-append_cases i.0 i.1 l (subst (λ (x : Word). Contains x l) i.2 c)) [
       | inl k ↦ Contains-append_left (letters a) (letters b) l (in_letters a i.0 i.3 l k)
       | inr k ↦ Contains-append_right (letters a) (letters b) l (in_letters b i.1 i.4 l k)
     ]
-in_letters (Alt' p a q b) w i l c =
+in_letters (either_of a b) w i l c =
     elim i [
       | inl k ↦ Contains-append_left (letters a) (letters b) l (in_letters a w k l c)
       | inr k ↦ Contains-append_right (letters a) (letters b) l (in_letters b w k l c)
     ]
-in_letters (Star' p a) w i l c = chain (In a) (letters a) (λ w i l c. in_letters a w i l c) i.0 i.2 l (subst (λ (x : Word). Contains x l) i.1 c)
+in_letters (repeated a) w i l c = chain (In a) (letters a) (λ w i l c. in_letters a w i l c) i.0 i.2 l (subst (λ (x : Word). Contains x l) i.1 c)
 
-viable_letter : (e : Expr) (w : Word) (l : ℕ) → IsViable e (w ++ l ∷ []) → Contains (letters e) l
+viable_letter : (e : ExprOf) (w : Word) (l : ℕ) → IsViable e (w ++ l ∷ []) → Contains (letters e) l
 viable_letter e w l v = in_letters e ((w ++ l ∷ []) ++ v.0) v.1 l (Contains-append_left (w ++ l ∷ []) v.0 l (Contains-push w l))
 
 in_lists : {X : Type 0} (n : ℕ) (xs ys : List X) → length ys ≤ n → ((y : X) → Contains ys y → Contains xs y) → Contains (lists_of n xs) ys

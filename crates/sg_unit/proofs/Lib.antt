@@ -6,6 +6,8 @@ pub mod Falling
 pub mod Growing
 pub mod Honesty
 pub mod Lonely
+pub mod Pasts
+pub mod Small
 pub mod Steps
 pub mod Telling
 pub mod Tracing

@@ -30,7 +30,7 @@ at_corner u s l c =
 there : Contains (corner ∷ []) corner
 there = Contains-head corner []
 
-lonely_opens : (D : Type 0) → IsOpening {D = D} lonely
+pub lonely_opens : (D : Type 0) → IsOpening {D = D} lonely
 lonely_opens D = record {
   held = record {
     graph = record {
@@ -52,6 +52,9 @@ lonely_opens D = record {
     row_holder = λ u s l c. let e = (at_corner u s l c).0 in omega (arith, e);
     datum_holder = λ u s c. absurd (nothing_in (let x : DatumHold = record { scope = s; unit = u } in x) c);
     serials = λ s c b. let e : s.unit ≡ nobody = ap (λ (x : Scope). x.unit) (single corner s c) in absurd (omega (arith, b, e));
+    rest_rises = tt;
+    rest_edges = λ s l t e. absurd (nothing_in (let x : Edge = record { from = s; label = l; to = t } in x) e);
+    rest_or_given = λ s l t e. absurd (nothing_in (let x : Edge = record { from = s; label = l; to = t } in x) e);
   };
   nobodys = λ s c. ap (λ (x : Scope). x.unit) (single corner s c);
   few = omega arith;
@@ -69,7 +72,7 @@ module _ {D P : Type 0} (wants : P → D → Bool) (same : D → D → Bool) (p 
   no_steps [] w = Contains-head (let x : List Step = [] in x) []
   no_steps (s ∷ ps) w = absurd (nothing_in (let x : Edge = record { from = corner; label = s.label; to = s.to } in x) w.0)
 
-  not_settled : IsSettled h q → ⊥
+  pub not_settled : IsSettled h q → ⊥
   not_settled (inl free) =
       free.0 corner 0 ([], ((tt, ((λ c. nothing_in corner c), tt)), tt), refl, ([], refl), open_to (lonely {D = D}) 0 corner 0 (Contains-head (let x : RowHold = record { scope = corner; label = 0; unit = 0 } in x) []))
   not_settled (inr m) =

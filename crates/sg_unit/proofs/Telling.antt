@@ -21,13 +21,13 @@ use Rattle.sg_unit.specs.declared.op.Op.{Op}
 use Rattle.sg_unit.specs.declared.op.Op.TheVariants.{Fresh, AddEdge, SetDatum, CloseRow, Ask, Advance, Take, End}
 use Rattle.sg_unit.specs.declared.reply.Reply.{Reply}
 use Rattle.sg_unit.specs.declared.reply.Reply.TheVariants.{Made, Done, Moved, Ready, Suspended, Answer as Answered, Stuck}
-use Rattle.sg_unit.specs.Law.{OwnEntriesAllow, RunsAllow, OwnEntriesRun}
+use Rattle.sg_unit.specs.Law.{OwnEntriesAllow, RunsAllow, OwnEntriesRun, OwnEntriesReply}
 use Rattle.sg_unit.specs.Operation.{goes_on}
-use Rattle.sg_unit.specs.Own.{own, Names, Knows, Uses, CanReply, IsOwnStep, IsOwnRunFrom}
+use Rattle.sg_unit.specs.Own.{own, Names, KnowsScope, Uses, CanReply, IsOwnStep, IsOwnRunFrom}
 use Rattle.sg_unit.specs.Run.{Setting, RunOf, Asking, asked_by, opened, held_after, ask_after, after, run_from, run_of}
 use Rattle.sg_unit.specs.Step.{Meets, Replies, IsStep, IsRunFrom}
 use Rattle.sg_unit.proofs.Asks.{IsAskedRun, step_asked, opened_asked, ready_for}
-use Rattle.sg_unit.proofs.Steps.{run_follows}
+use Rattle.sg_unit.proofs.Steps.{front_run, run_follows}
 use Rattle.sg_unit.proofs.Writes.{is_num, row_hold, datum_hold, fresh_scopes, fresh_rows, fresh_data, made_other, made_long, datum_was, close_was, end_row_was, end_datum_was}
 
 turned : (a b : ℕ) → eqb a b ≡ false → eqb b a ≡ false
@@ -397,16 +397,23 @@ module _ {I R D P : Type 0} (u : ℕ) (z : Setting D P) where
 pub own_entries_run : (I R D P : Type 0) → OwnEntriesRun I R D P
 own_entries_run I R D P z log u run = own_run u z (opened z) (opened z) (within_self u (opened z)) log run
 
+pub own_entries_reply : (I R D P : Type 0) → OwnEntriesReply I R D P
+own_entries_reply I R D P z log more e run =
+    let start = opened z in
+    let step : IsStep z (run_of z log) e = ((front_run z start log (e ∷ more) run).1).0 in
+    let w : IsWithin e.unit (run_of z log) (run_of z (own e.unit log)) = own_within e.unit start start (within_self e.unit start) log in
+    can_reply e.unit z (run_of z log) (run_of z (own e.unit log)) (after (run_of z log) e) w.alike e.op e.reply (step.may).1 step.replies
+
 pub own_allow : (I R D P : Type 0) → OwnEntriesAllow I R D P
 own_allow I R D P z log u op ok run may =
     let start = opened z in
     let w : IsWithin u (run_of z log) (run_of z (own u log)) = own_within u start start (within_self u start) log in
-    let known : (s : Scope) → Knows z (own u log) s → HasScope (run_of z log).held.graph s = λ s k. elim k [
+    let known : (s : Scope) → KnowsScope z (own u log) s → HasScope (run_of z log).held.graph s = λ s k. elim k [
       | inl i ↦ w.scopes s i
       | inr i ↦ run_named z start (opened_asked z ok) log run i.0 (Contains-filter (λ (e : Entry I R D P). eqb e.unit u) log i.0 i.1).0 (i.2).0 (i.2).1 s (i.2).2
     ] in (
       subst (λ (b : Bool). IsTrue b) (sym w.alike.live) may.0,
-      meets_alike u z (run_of z (own u log)) (run_of z log) (alike_back u (run_of z log) (run_of z (own u log)) w.alike) (Knows z (own u log)) (HasScope (run_of z log).held.graph) op (λ s i. known s) may.1,
+      meets_alike u z (run_of z (own u log)) (run_of z log) (alike_back u (run_of z log) (run_of z (own u log)) w.alike) (KnowsScope z (own u log)) (HasScope (run_of z log).held.graph) op (λ s i. known s) may.1,
     )
 
 pub run_allows : (I R D P : Type 0) → RunsAllow I R D P
@@ -414,5 +421,5 @@ run_allows I R D P z log u op may known =
     let start = opened z in
     let w : IsWithin u (run_of z log) (run_of z (own u log)) = own_within u start start (within_self u start) log in (
       subst (λ (b : Bool). IsTrue b) w.alike.live may.0,
-      meets_alike u z (run_of z log) (run_of z (own u log)) w.alike (HasScope (run_of z log).held.graph) (Knows z (own u log)) op (λ s i h. known s i) may.1,
+      meets_alike u z (run_of z log) (run_of z (own u log)) w.alike (HasScope (run_of z log).held.graph) (KnowsScope z (own u log)) op (λ s i h. known s i) may.1,
     )

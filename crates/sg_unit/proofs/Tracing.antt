@@ -15,10 +15,10 @@ use Rattle.sg_unit.specs.declared.op.Op.TheVariants.{Fresh, AddEdge, SetDatum, C
 use Rattle.sg_unit.specs.declared.reply.Reply.{Reply}
 use Rattle.sg_unit.specs.declared.reply.Reply.TheVariants.{Made, Done, Moved, Ready, Suspended, Answer as Answered, Stuck}
 use Rattle.sg_unit.specs.Law.{TracesAllow, TracesHand, TracesTell}
-use Rattle.sg_unit.specs.Own.{own, Knows, CanReply, IsOwnRunFrom, IsOwnRun}
+use Rattle.sg_unit.specs.Own.{own, KnowsScope, CanReply, IsOwnRunFrom, IsOwnRun}
 use Rattle.sg_unit.specs.Run.{Setting, RunOf, Asking, no_ask, open_ask, ready_ask, opened, advanced, ask_after, after, run_from, run_of, NoAsk, IsOpenAsk, IsReadyAsk, IsFor}
 use Rattle.sg_unit.specs.Step.{Meets}
-use Rattle.sg_unit.specs.Trace.{Past, Told, with_last, handed, told_after, told_from, untold, told, entries_for, entries_of, CanHand, IsHanded}
+use Rattle.sg_unit.specs.Trace.{Past, Trace, with_last, handed, told_after, told_from, untold, told, entries_for, entries_of, CanHand, IsHanded}
 use Rattle.sg_unit.proofs.Steps.{run_append}
 use Rattle.sg_unit.proofs.Telling.{IsWithin, own_step, own_within, meets_alike, within_self, alike_back, own_allow, own_entries_run}
 use Rattle.sg_unit.proofs.Writes.{num_is}
@@ -142,7 +142,7 @@ module _ {I R D P : Type 0} (z : Setting D P) (u : ℕ) where
         (λ k. subst (λ (i : Op I R D P). CanHand z u past i y) (sym f.1) g),
       )
 
-  fits_step : (r : RunOf D P) (t : Told I R D P) (op : Op I R D P) (y : Reply I D P) → Fits r t.past t.last t.reply → Meets z (λ s. Unit {0}) r u op → CanReply r u op y → Fits (after r (entry u op y)) (told_after t op y).past (told_after t op y).last (told_after t op y).reply
+  fits_step : (r : RunOf D P) (t : Trace I R D P) (op : Op I R D P) (y : Reply I D P) → Fits r t.past t.last t.reply → Meets z (λ s. Unit {0}) r u op → CanReply r u op y → Fits (after r (entry u op y)) (told_after t op y).past (told_after t op y).last (told_after t op y).reply
   fits_step r t (Fresh labels datum) y f m g =
       let w = fits_handed r t.past t.last t.reply f m.0 in
       wrote r (handed t) (entry u (Fresh labels datum) y) refl w refl (own_asks {R = R} r u (Fresh labels datum) y ∙ m.0) (λ k. g ∙ ap (λ (n : ℕ). let x : Reply I D P = Made (record { unit = u; serial = n }) in x) (w.alike).made)
@@ -159,7 +159,7 @@ module _ {I R D P : Type 0} (z : Setting D P) (u : ℕ) where
   fits_step r t Advance y f m g = fits_advance r t.past t.last t.reply y f m
   fits_step r t Take y f m g = fits_take r t.past t.last t.reply y f m g
 
-  fits_from : (r : RunOf D P) (t : Told I R D P) (es : List (Entry I R D P)) → IsOwnRunFrom z u r es → Fits r t.past t.last t.reply → Fits (run_from r es) (told_from t es).past (told_from t es).last (told_from t es).reply
+  fits_from : (r : RunOf D P) (t : Trace I R D P) (es : List (Entry I R D P)) → IsOwnRunFrom z u r es → Fits r t.past t.last t.reply → Fits (run_from r es) (told_from t es).past (told_from t es).last (told_from t es).reply
   fits_from r t [] run f = f
   fits_from r t (e ∷ es) run f =
       let step : Fits (after r (entry u e.op e.reply)) (told_after t e.op e.reply).past (told_after t e.op e.reply).last (told_after t e.op e.reply).reply = fits_step r t e.op e.reply f (run.0).meets (run.0).replies in
@@ -185,7 +185,7 @@ module _ {I R D P : Type 0} where
   given_in : (past : Past I R D P) (op : Op I R D P) (y : Reply I D P) (x : Op I R D P × Reply I D P) → Contains (past ++ (op, y) ∷ []) x → Contains past x ⊎ (x.1 ≡ y)
   given_in past op y x c = elim (Contains-append_cases past ((op, y) ∷ []) x c) [ inl k ↦ inl k | inr k ↦ inr (ap (λ (p : Op I R D P × Reply I D P). p.1) (single (op, y) x k)) ]
 
-  handed_in : (t : Told I R D P) (op : Op I R D P) (y : Reply I D P) (x : Op I R D P × Reply I D P) → Contains (handed (told_after t op y)) x → Contains (handed t) x ⊎ (x.1 ≡ y)
+  handed_in : (t : Trace I R D P) (op : Op I R D P) (y : Reply I D P) (x : Op I R D P × Reply I D P) → Contains (handed (told_after t op y)) x → Contains (handed t) x ⊎ (x.1 ≡ y)
   handed_in t (Fresh labels datum) y x c = given_in (handed t) (Fresh labels datum) y x c
   handed_in t (AddEdge from label to) y x c = given_in (handed t) (AddEdge from label to) y x c
   handed_in t (SetDatum s d) y x c = given_in (handed t) (SetDatum s d) y x c
@@ -195,7 +195,7 @@ module _ {I R D P : Type 0} where
   handed_in t Take y x c = taken_in t.past t.last t.reply y x c
   handed_in t (End o) y x c = given_in (handed t) (End o) y x c
 
-  told_in : (t : Told I R D P) (es : List (Entry I R D P)) (x : Op I R D P × Reply I D P) → Contains (handed (told_from t es)) x → Contains (handed t) x ⊎ ((e : Entry I R D P) × Contains es e × (e.reply ≡ x.1))
+  told_in : (t : Trace I R D P) (es : List (Entry I R D P)) (x : Op I R D P × Reply I D P) → Contains (handed (told_from t es)) x → Contains (handed t) x ⊎ ((e : Entry I R D P) × Contains es e × (e.reply ≡ x.1))
   told_in t [] x c = inl c
   told_in t (e ∷ es) x c =
       elim (told_in (told_after t e.op e.reply) es x c) [
@@ -235,9 +235,9 @@ module _ {I R D P : Type 0} where
 
 pub traces_allow : (I R D P : Type 0) → TracesAllow I R D P
 traces_allow I R D P z mine u op run n may =
-    let t : Told I R D P = told mine in
+    let t : Trace I R D P = told mine in
     let w : IsWithin u (run_of z mine) (run_of z (entries_of u (handed t))) = fits_handed z u (run_of z mine) t.past t.last t.reply (told_fits z u mine run) n in
-    let known : (s : Scope) → Knows z (entries_of u (handed t)) s → Knows z mine s = λ s k. elim k [
+    let known : (s : Scope) → KnowsScope z (entries_of u (handed t)) s → KnowsScope z mine s = λ s k. elim k [
       | inl i ↦ inl (w.scopes s i)
       | inr i ↦
           let past = answer_of u (handed t) i.0 (i.2).0 i.1 (i.2).1 in
@@ -247,7 +247,7 @@ traces_allow I R D P z mine u op run n may =
           ]
     ] in (
       subst (λ (b : Bool). IsTrue b) (sym (w.alike).live) may.0,
-      meets_alike u z (run_of z (entries_of u (handed t))) (run_of z mine) (alike_back u (run_of z mine) (run_of z (entries_of u (handed t))) w.alike) (Knows z (entries_of u (handed t))) (Knows z mine) op (λ s i k. known s k) may.1,
+      meets_alike u z (run_of z (entries_of u (handed t))) (run_of z mine) (alike_back u (run_of z mine) (run_of z (entries_of u (handed t))) w.alike) (KnowsScope z (entries_of u (handed t))) (KnowsScope z mine) op (λ s i k. known s k) may.1,
     )
 
 pub traces_hand : (I R D P : Type 0) → TracesHand I R D P

@@ -26,14 +26,15 @@ use Rattle.sg_unit.specs.Operation.{goes_on, waits_by, woken_by}
 use Rattle.sg_unit.specs.Run.{Setting, RunOf, Asking, open_ask, units_of, asked_by, opened, held_after, advanced, ask_after, after, run_from, run_of, IsFor}
 use Rattle.sg_unit.specs.Step.{May, Replies, IsStep, IsRunFrom}
 use Rattle.sg_state.specs.Need.{Holds}
-use Rattle.sg_unit.specs.Waiting.{Blocks, IsStillOpen, Needs, IsWoken, IsHeldUp}
+use Rattle.sg_unit.specs.Waiting.{Blocks, IsStillOpen, WaitsOn, IsWoken, IsHeldUp}
 use Rattle.sg_unit.proofs.Asks.{IsAskedRun, step_asked, opened_asked}
 use Rattle.sg_unit.proofs.Steps.{op_follows}
 use Rattle.sg_unit.proofs.Writes.{is_num, fresh_rows, fresh_data}
 
 -- ---- whether something is still open can be told
 
-contained_or : {X : Type 0} → ((x y : X) → (x ≡ y) ⊎ (x ≡ y → ⊥)) → (xs : List X) (x : X) → Contains xs x ⊎ (Contains xs x → ⊥)
+-- whether a list has a thing
+pub contained_or : {X : Type 0} → ((x y : X) → (x ≡ y) ⊎ (x ≡ y → ⊥)) → (xs : List X) (x : X) → Contains xs x ⊎ (Contains xs x → ⊥)
 contained_or test [] x = inr (λ c. nothing_in x c)
 contained_or {X} test (y ∷ xs) x =
     elim (test x y) [
@@ -50,7 +51,8 @@ number_or a b = elim (cases_Bool (eqb a b)) [ inl e ↦ inl (is_num a b e) | inr
     differ : (a b : ℕ) → eqb a b ≡ false → a ≡ b → ⊥
     differ a b e h = grind (arith, nat_tests)
 
-scope_or : (a b : Scope) → (a ≡ b) ⊎ (a ≡ b → ⊥)
+-- whether two scopes are the same
+pub scope_or : (a b : Scope) → (a ≡ b) ⊎ (a ≡ b → ⊥)
 scope_or a b =
     elim (number_or a.unit b.unit) [
       | inl e ↦ elim (number_or a.serial b.serial) [
@@ -99,7 +101,7 @@ is_other false h e = cc
 
 -- ---- needs that no write takes away
 
-unwoken : {D P : Type 0} (z : Setting D P) (r : RunOf D P) (h : HeldOf D) (ws : List ℕ) → IsWoken z r h ws → (u : ℕ) → IsTrue (not (list_any (λ v. eqb v u) ws)) → (n : Need) → Needs z r u n → IsStillOpen (state_of h) n
+unwoken : {D P : Type 0} (z : Setting D P) (r : RunOf D P) (h : HeldOf D) (ws : List ℕ) → IsWoken z r h ws → (u : ℕ) → IsTrue (not (list_any (λ v. eqb v u) ws)) → (n : Need) → WaitsOn z r u n → IsStillOpen (state_of h) n
 unwoken z r h ws k u out n need =
     elim (open_or (state_of h) n) [
       | inl o ↦ o
@@ -108,7 +110,7 @@ unwoken z r h ws k u out n need =
 
 module _ {I R D P : Type 0} (z : Setting D P) where
   -- what a unit needs is still open after a step that does not wake it
-  pub kept_open : (r next : RunOf D P) (w : ℕ) (op : Op I R D P) (y : Reply I D P) → next.held ≡ held_after r.held w op → Replies z r next w op y → (u : ℕ) → IsTrue (not (list_any (λ v. eqb v u) (woken_by y))) → (n : Need) → Needs z r u n → IsStillOpen (state_of r.held) n → IsStillOpen (state_of (held_after r.held w op)) n
+  pub kept_open : (r next : RunOf D P) (w : ℕ) (op : Op I R D P) (y : Reply I D P) → next.held ≡ held_after r.held w op → Replies z r next w op y → (u : ℕ) → IsTrue (not (list_any (λ v. eqb v u) (woken_by y))) → (n : Need) → WaitsOn z r u n → IsStillOpen (state_of r.held) n → IsStillOpen (state_of (held_after r.held w op)) n
   kept_open r next w (Fresh labels datum) y same s u out (Row t l) need o =
       let k = open_from r.held t l o in
       open_to (with_fresh r.held w labels datum) k.0 t l ((fresh_rows r.held w labels datum k.0 t l).1 (inl k.1))

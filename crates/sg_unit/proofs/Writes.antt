@@ -17,9 +17,10 @@ use Rattle.sg_base.proofs.Finite.{nothing_in, Contains-cons, Contains-map, map-C
 use Rattle.sg_base.proofs.Growing.{scope_added, datum_added}
 use Rattle.sg_base.proofs.Rising.{Rising-filter}
 use Rattle.sg_base.proofs.Scopes.{equal_scope}
-use Rattle.sg_state.specs.Held.{HeldOf, RowHold, DatumHold, HoldsRow, HoldsDatum, next_scope, IsHeld, put, labels_in, row_hold_cmp, row_hold_total, datum_hold_cmp, datum_hold_total, is_row_hold, is_datum_hold, with_fresh, with_edge, with_datum, without_row, without_unit}
+use Rattle.sg_state.specs.Held.{HeldOf, RowHold, DatumHold, HoldsRow, HoldsDatum, next_scope, IsHeld, is_given, put, labels_in, row_hold_cmp, row_hold_total, datum_hold_cmp, datum_hold_total, is_row_hold, is_datum_hold, with_fresh, with_edge, with_datum, without_row, without_unit}
+use Rattle.sg_state.proofs.Among.{pair_from}
 use Rattle.sg_state.proofs.RisingLists.{keys_rise, Contains-put, Rising-put, Rising-puts, Contains-puts}
-use Rattle.sg_state.proofs.Writing.{equal_edge, equal_row_hold, equal_datum_hold}
+use Rattle.sg_state.proofs.Equals.{equal_edge, equal_row_hold, equal_datum_hold}
 
 pub is_num : (a b : ℕ) → eqb a b ≡ true → a ≡ b
 is_num a b h = grind (arith, nat_tests)
@@ -147,6 +148,9 @@ module _ {D : Type 0} (h : HeldOf D) (u labels : ℕ) (datum : Bool) where
       row_holder = λ v s l k. longer v (elim ((fresh_rows v s l).0 k) [ inl x ↦ ok.row_holder v s l x | inr x ↦ subst (λ (n : ℕ). n < length h.made) (sym x.0) lt ]);
       datum_holder = λ v s k. longer v (elim ((fresh_data v s).0 k) [ inl x ↦ ok.datum_holder v s x | inr x ↦ subst (λ (n : ℕ). n < length h.made) (sym x.0) lt ]);
       serials = serials_now;
+      rest_rises = ok.rest_rises;
+      rest_edges = ok.rest_edges;
+      rest_or_given = ok.rest_or_given;
     }
       where
         longer : (v : ℕ) → v < length h.made → v < length (with_fresh h u labels datum).made
@@ -207,7 +211,27 @@ module _ {D : Type 0} (h : HeldOf D) (ok : IsHeld h) where
         row_holder = ok.row_holder;
         datum_holder = ok.datum_holder;
         serials = ok.serials;
+        rest_rises = rest_up (is_given h.graph e.to);
+        rest_edges = λ s l x c. (puts (record { from = s; label = l; to = x })).1 (elim (rest_was (is_given h.graph e.to) (record { from = s; label = l; to = x }) c) [ inl a ↦ inl (ok.rest_edges s l x a) | inr a ↦ inr a ]);
+        rest_or_given = λ s l x c. rest_or (is_given h.graph e.to) refl s l x ((puts (record { from = s; label = l; to = x })).0 c);
       }
+    where
+      rests : (x : Edge) → (Contains (put edge_cmp h.rest e) x) ↔ (Contains h.rest x ⊎ (x ≡ e))
+      rests x = Contains-put edge_cmp edge_total h.rest e (λ y c z. equal_edge e y z) x
+
+      rest_up : (b : Bool) → IsRising edge_cmp (cond b h.rest (put edge_cmp h.rest e))
+      rest_up true = ok.rest_rises
+      rest_up false = Rising-put edge_cmp edge_total h.rest e (λ y c z. equal_edge e y z) ok.rest_rises
+
+      rest_was : (b : Bool) (x : Edge) → Contains (cond b h.rest (put edge_cmp h.rest e)) x → Contains h.rest x ⊎ (x ≡ e)
+      rest_was true x c = inl c
+      rest_was false x c = (rests x).0 c
+
+      rest_or : (b : Bool) → is_given h.graph e.to ≡ b → (s : Scope) (l : ℕ) (x : Scope) → Contains h.graph.edges (record { from = s; label = l; to = x }) ⊎ ((let y : Edge = record { from = s; label = l; to = x } in y) ≡ e) → Contains (cond b h.rest (put edge_cmp h.rest e)) (record { from = s; label = l; to = x }) ⊎ ((d : D) × HasDatum h.graph x d)
+      rest_or true g s l x (inl a) = ok.rest_or_given s l x a
+      rest_or true g s l x (inr a) = let d = pair_from h.graph.given e.to g in inr (d.0, subst (λ (y : Scope). HasDatum h.graph y d.0) (sym (ap (λ (y : Edge). y.to) a)) d.1)
+      rest_or false g s l x (inl a) = elim (ok.rest_or_given s l x a) [ inl r ↦ inl ((rests (record { from = s; label = l; to = x })).1 (inl r)) | inr d ↦ inr d ]
+      rest_or false g s l x (inr a) = inl ((rests (record { from = s; label = l; to = x })).1 (inr a))
 
   pub datum_held : (u : ℕ) (s : Scope) (d : D) → HoldsDatum h u s → IsHeld (with_datum h u s d)
   datum_held u s d k =
@@ -235,6 +259,9 @@ module _ {D : Type 0} (h : HeldOf D) (ok : IsHeld h) where
         row_holder = ok.row_holder;
         datum_holder = λ v t c. ok.datum_holder v t (datum_was h u s v t d c).0;
         serials = ok.serials;
+        rest_rises = ok.rest_rises;
+        rest_edges = ok.rest_edges;
+        rest_or_given = λ t l x c. elim (ok.rest_or_given t l x c) [ inl r ↦ inl r | inr y ↦ inr (y.0, (puts (x, y.0)).1 (inl y.1)) ];
       }
     where
       given_before : (y : Scope × D) → Contains h.graph.given y → scope_cmp s y.0 ≡ Equal → ⊥
@@ -263,6 +290,9 @@ module _ {D : Type 0} (h : HeldOf D) (ok : IsHeld h) where
     row_holder = λ v t m c. ok.row_holder v t m (close_was h u s l v t m c).0;
     datum_holder = ok.datum_holder;
     serials = ok.serials;
+    rest_rises = ok.rest_rises;
+    rest_edges = ok.rest_edges;
+    rest_or_given = ok.rest_or_given;
   }
 
   pub end_held : (u : ℕ) → IsHeld (without_unit h u)
@@ -278,4 +308,7 @@ module _ {D : Type 0} (h : HeldOf D) (ok : IsHeld h) where
     row_holder = λ v t m c. ok.row_holder v t m (end_row_was h u v t m c).0;
     datum_holder = λ v t c. ok.datum_holder v t (end_datum_was h u v t c).0;
     serials = ok.serials;
+    rest_rises = ok.rest_rises;
+    rest_edges = ok.rest_edges;
+    rest_or_given = ok.rest_or_given;
   }

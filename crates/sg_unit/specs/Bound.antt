@@ -3,19 +3,18 @@ use Rattle.std.specs.Prelude.{ℕ, zero, suc, ◌+◌, ◌-◌, List, [], ◌∷
 use Rattle.std.specs.List.{flat_map}
 use Rattle.sg_base.specs.declared.step.Step.{Step}
 use Rattle.sg_base.specs.Graph.{GraphOf}
-use Rattle.sg_expr.specs.declared.expr.Expr.{Expr}
-use Rattle.sg_expr.specs.declared.expr.Expr.TheVariants.{Nothing, Empty, One, Seq', Alt', Star'}
+use Rattle.sg_expr.specs.Tree.{ExprOf, no_word, empty_word, one_label, in_turn, either_of, repeated}
 use Rattle.sg_query.specs.State.{Item, next, whole}
 use Rattle.sg_unit.specs.Run.{Setting, RunOf, Asking, no_ask, open_ask, ready_ask, asked_by}
 
 -- the labels that an expression names
-abbrev pub letters : Expr → List ℕ
-letters Nothing = []
-letters Empty = []
-letters (One l) = l ∷ []
-letters (Seq' p a q b) = letters a ++ letters b
-letters (Alt' p a q b) = letters a ++ letters b
-letters (Star' p a) = letters a
+abbrev pub letters : ExprOf → List ℕ
+letters no_word = []
+letters empty_word = []
+letters (one_label l) = l ∷ []
+letters (in_turn a b) = letters a ++ letters b
+letters (either_of a b) = letters a ++ letters b
+letters (repeated a) = letters a
 
 -- the lists of at most n things of a list
 abbrev pub lists_of : {X : Type 0} → ℕ → List X → List (List X)
@@ -27,11 +26,11 @@ abbrev pub steps_in : {D : Type 0} → GraphOf D → List Step
 steps_in g = map (λ a. record { label = a.label; to = a.to }) g.edges
 
 -- all that a search can look at in a graph, and more
-abbrev pub all_items : {D : Type 0} → GraphOf D → Expr → List Item
+abbrev pub all_items : {D : Type 0} → GraphOf D → ExprOf → List Item
 all_items g e = flat_map (λ ps. whole ps ∷ map (λ l. next ps l) (letters e)) (lists_of (length g.scopes) (steps_in g))
 
 -- more than a query of this expression has items in the graph
-abbrev pub item_bound : {D : Type 0} → GraphOf D → Expr → ℕ
+abbrev pub item_bound : {D : Type 0} → GraphOf D → ExprOf → ℕ
 item_bound g e = length (all_items g e)
 
 -- how many more advances and takes a unit can do at most, and one more for an open ask, while nobody writes

@@ -1,17 +1,17 @@
 -- Small units and a small run, which show that the definitions are met.
 use Rattle.std.specs.Prelude.{◌≡◌, ℕ, zero, suc, List, [], ◌∷◌, Bool, false, Option, Some, None}
 use Rattle.sg_base.specs.declared.scope.Scope.{Scope}
-use Rattle.sg_expr.specs.declared.expr.Expr.TheVariants.{One}
+use Rattle.sg_expr.specs.Tree.{one_label}
 use Rattle.sg_query.specs.declared.answer.Answer.TheVariants.{TooMany}
-use Rattle.sg_query.specs.declared.kind.Kind.{Kind}
 use Rattle.sg_query.specs.declared.query.Query.{Query}
+use Rattle.sg_query.specs.Query.{KindOf}
 use Rattle.sg_state.specs.Held.{HeldOf}
 use Rattle.sg_state.specs.Opening.{nobody}
 use Rattle.sg_unit.specs.declared.entry.Entry.{Entry}
 use Rattle.sg_unit.specs.declared.op.Op.{Op}
 use Rattle.sg_unit.specs.declared.op.Op.TheVariants.{Fresh, AddEdge, SetDatum, CloseRow, Ask, Advance, Take, End}
 use Rattle.sg_unit.specs.declared.reply.Reply.{Reply}
-use Rattle.sg_unit.specs.declared.reply.Reply.TheVariants.{Done, Moved, Ready, Answer as Answered, Stuck}
+use Rattle.sg_unit.specs.declared.reply.Reply.TheVariants.{Done, Moved, Ready, Suspended, Answer as Answered, Stuck}
 use Rattle.sg_unit.specs.Run.{Setting}
 use Rattle.sg_unit.specs.Trace.{Past}
 
@@ -24,8 +24,8 @@ abbrev pub corner_query : {P : Type 0} → P → Query P
 corner_query p = record { start = corner; kind = 0; pred = p }
 
 -- the queries of kind 0 take one step with label 0
-abbrev pub one_step : List Kind
-one_step = (record { expr = One 0; order = [] }) ∷ []
+abbrev pub one_step : List KindOf
+one_step = (record { expr = one_label 0; order = [] }) ∷ []
 
 -- ---- a unit that waits for itself
 
@@ -36,6 +36,7 @@ lonely = record {
   row_holds = (record { scope = corner; label = 0; unit = 0 }) ∷ [];
   datum_holds = [];
   made = 0 ∷ [];
+  rest = [];
 }
 
 abbrev pub lonely_setting : {D P : Type 0} → (P → D → Bool) → (D → D → Bool) → Setting D P
@@ -54,7 +55,15 @@ pair = record {
   row_holds = (record { scope = corner; label = 0; unit = 1 }) ∷ [];
   datum_holds = [];
   made = 0 ∷ 0 ∷ [];
+  rest = [];
 }
+
+abbrev pub pair_setting : {D P : Type 0} → (P → D → Bool) → (D → D → Bool) → Setting D P
+pair_setting wants same = record { opening = pair; kinds = one_step; wants = wants; same = same }
+
+-- unit 0 asks along the row of unit 1, and waits
+abbrev pub pair_log : {I R D P : Type 0} → P → List (Entry I R D P)
+pair_log p = (record { unit = 0; op = Ask (corner_query p); reply = Moved }) ∷ (record { unit = 0; op = Advance; reply = Suspended }) ∷ []
 
 -- unit 1 asks, adds an edge from the scope to itself, and ends: the traces after that many operations
 abbrev pub AskerStands : {I R D P : Type 0} → P → R → ℕ → Past I R D P → Option (Op I R D P) → Type 0

@@ -38,8 +38,8 @@ MeetsConditions z u past last = AllMayBeGiven z u [] past × LastMayBeGiven z u 
 -- ---- results
 
 -- the graph answers as the unit was told
-abbrev pub AnswersAlike : {I R D P : Type 0} → Setting D P → GraphOf D → Past I R D P → Type 0
-AnswersAlike {I} {R} {D} {P} z g past = (q : Query P) (a : Answer D) → Contains past (Ask q, Answered a) → IsAnswer g (asked_by z q) a
+abbrev pub AnswersAsTold : {I R D P : Type 0} → Setting D P → GraphOf D → Past I R D P → Type 0
+AnswersAsTold {I} {R} {D} {P} z g past = (q : Query P) (a : Answer D) → Contains past (Ask q, Answered a) → IsAnswer g (asked_by z q) a
 
 -- the unit gave this operation
 abbrev pub Gave : {I R D P : Type 0} → Past I R D P → Option (Op I R D P) → Op I R D P → Type 0
@@ -65,4 +65,4 @@ pub record GivesResults {I R D P : Type 0} (z : Setting D P) (u : ℕ) (edges : 
 -- the unit is honest by this trace, where it owes these things in each graph
 abbrev pub IsHonest : {I R D P : Type 0} → Setting D P → ℕ → (GraphOf D → Scope → ℕ → Scope → Type 0) → (GraphOf D → Scope → D → Type 0) → (GraphOf D → Query P → Type 0) → (GraphOf D → R → Type 0) → Past I R D P → Option (Op I R D P) → Type 0
 IsHonest {I} {R} {D} {P} z u edges data_at asks result past last =
-    (AreHanded z u [] past → MeetsConditions z u past last) × ((g : GraphOf D) → AnswersAlike z g past → GivesResults z u (edges g) (data_at g) (asks g) (result g) past last)
+    (AreHanded z u [] past → MeetsConditions z u past last) × ((g : GraphOf D) → AnswersAsTold z g past → GivesResults z u (edges g) (data_at g) (asks g) (result g) past last)

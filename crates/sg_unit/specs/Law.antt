@@ -1,5 +1,6 @@
 -- What holds of every run.
 use Rattle.std.specs.Prelude.{◌≡◌, ◌≢◌, ℕ, ◌<◌, List, [], ◌∷◌, ◌++◌, Bool, false, IsTrue, Option, Some, None, ◌⊎◌}
+use Rattle.std.specs.List.{Contains}
 use Rattle.sg_base.specs.declared.scope.Scope.{Scope}
 use Rattle.sg_base.specs.Graph.{GraphOf, IsGraph, HasScope}
 use Rattle.sg_base.specs.List.{MoreThan}
@@ -10,20 +11,21 @@ use Rattle.sg_query.specs.Answer.{IsAnswer}
 use Rattle.sg_query.specs.Query.{Asked}
 use Rattle.sg_query.specs.State.{IsItem}
 use Rattle.sg_state.specs.declared.need.Need.{Need}
-use Rattle.sg_state.specs.Held.{state_of}
+use Rattle.sg_state.specs.Held.{state_of, without_row}
 use Rattle.sg_state.specs.Opening.{IsOpening}
 use Rattle.sg_unit.specs.declared.entry.Entry.{Entry}
 use Rattle.sg_unit.specs.declared.op.Op.{Op}
-use Rattle.sg_unit.specs.declared.op.Op.TheVariants.{Advance, Take}
+use Rattle.sg_unit.specs.declared.op.Op.TheVariants.{AddEdge, CloseRow, Ask, Advance, Take, End}
 use Rattle.sg_unit.specs.declared.reply.Reply.{Reply}
+use Rattle.sg_unit.specs.declared.reply.Reply.TheVariants.{Moved, Ready, Answer as Answered, Stuck}
 use Rattle.sg_unit.specs.Bound.{item_bound, weight}
-use Rattle.sg_unit.specs.Example.{lonely_setting, lonely_log}
-use Rattle.sg_unit.specs.Honest.{AnswersAlike, GivesResults, IsHonest}
-use Rattle.sg_unit.specs.Own.{own, Knows, MayBy, Uses, CanReply, IsOwnRun}
+use Rattle.sg_unit.specs.Example.{corner, corner_query, lonely_setting, lonely_log, pair, pair_setting, pair_log}
+use Rattle.sg_unit.specs.Honest.{AnswersAsTold, GivesResults, IsHonest}
+use Rattle.sg_unit.specs.Own.{own, KnowsScope, MayBy, Uses, CanReply, IsOwnRun}
 use Rattle.sg_unit.specs.Run.{Setting, ready_ask, asked_by, NoAsk, after, run_of}
 use Rattle.sg_unit.specs.Step.{May, IsStep, IsRun, asks, taken}
 use Rattle.sg_unit.specs.Trace.{Past, with_last, handed, told_after, told, MayGive, IsHanded}
-use Rattle.sg_unit.specs.Waiting.{IsHeldUp, IsShown, IsStuck}
+use Rattle.sg_unit.specs.Waiting.{IsHeldUp, IsShown, IsStuck, IsWoken}
 
 -- ---- time
 
@@ -48,11 +50,15 @@ OwnEntriesAllow I R D P =
 -- what a run allows, the unit's own entries allow, where it knows the scopes
 abbrev pub RunsAllow : Type 0 → Type 0 → Type 0 → Type 0 → Type 0
 RunsAllow I R D P =
-    (z : Setting D P) (log : List (Entry I R D P)) (u : ℕ) (op : Op I R D P) → May z (run_of z log) u op → ((s : Scope) → Uses op s → Knows z (own u log) s) → MayBy z (own u log) u op
+    (z : Setting D P) (log : List (Entry I R D P)) (u : ℕ) (op : Op I R D P) → May z (run_of z log) u op → ((s : Scope) → Uses op s → KnowsScope z (own u log) s) → MayBy z (own u log) u op
 
 -- a unit's own entries in a run are such as it can tell
 abbrev pub OwnEntriesRun : Type 0 → Type 0 → Type 0 → Type 0 → Type 0
 OwnEntriesRun I R D P = (z : Setting D P) (log : List (Entry I R D P)) (u : ℕ) → IsRun z log → IsOwnRun z u (own u log)
+
+-- the reply of each entry of a run is one that its operation can have, as the entries of its unit before it tell
+abbrev pub OwnEntriesReply : Type 0 → Type 0 → Type 0 → Type 0 → Type 0
+OwnEntriesReply I R D P = (z : Setting D P) (log more : List (Entry I R D P)) (e : Entry I R D P) → IsRun z (log ++ e ∷ more) → CanReply (run_of z (own e.unit log)) e.unit e.op e.reply
 
 -- where a unit asks nothing: what it may give as its trace tells it, it may do as its own entries tell it
 abbrev pub TracesAllow : Type 0 → Type 0 → Type 0 → Type 0 → Type 0
@@ -127,6 +133,40 @@ SomeGetStuck I R D P =
     (wants : P → D → Bool) (same : D → D → Bool) (p : P) → IsOpening (lonely_setting wants same).opening
     × (let log : List (Entry I R D P) = lonely_log p in IsRun (lonely_setting wants same) log × IsStuck (run_of (lonely_setting wants same) log))
 
+-- ---- what small runs tell apart
+
+-- where a unit asks along its own row and there is no other, its advance has the reply Stuck alone
+abbrev pub LonelyUnitsGetStuck : Type 0 → Type 0 → Type 0 → Type 0 → Type 0
+LonelyUnitsGetStuck I R D P =
+    (wants : P → D → Bool) (same : D → D → Bool) (p : P) (y : Reply I D P)
+    → (let log : List (Entry I R D P) = (record { unit = 0; op = Ask (corner_query p); reply = Moved }) ∷ (record { unit = 0; op = Advance; reply = y }) ∷ [] in IsRun (lonely_setting wants same) log) → y ≡ Stuck
+
+-- a unit does not end while it asks
+abbrev pub AskersDoNotEnd : Type 0 → Type 0 → Type 0 → Type 0 → Type 0
+AskersDoNotEnd I R D P =
+    (wants : P → D → Bool) (same : D → D → Bool) (p : P) (x : R) (y : Reply I D P)
+    → (let log : List (Entry I R D P) = (record { unit = 0; op = Ask (corner_query p); reply = Moved }) ∷ (record { unit = 0; op = End x; reply = y }) ∷ [] in IsRun (lonely_setting wants same) log) → ⊥
+
+-- no unit adds to another's row, nor to its own once it closed that, as its own entries tell it; and what has ended holds nothing
+abbrev pub HoldersAloneAdd : Type 0 → Type 0 → Type 0 → Type 0 → Type 0
+HoldersAloneAdd I R D P =
+    (wants : P → D → Bool) (same : D → D → Bool) (x : R) (y : Reply I D P)
+    → ((let log : List (Entry I R D P) = (record { unit = 0; op = AddEdge corner 0 corner; reply = y }) ∷ [] in IsRun (pair_setting wants same) log) → ⊥)
+    × ((let mine : List (Entry I R D P) = (record { unit = 1; op = CloseRow corner 0; reply = y }) ∷ [] in MayBy (pair_setting wants same) mine 1 (AddEdge corner 0 corner)) → ⊥)
+    × ((let log : List (Entry I R D P) = (record { unit = 1; op = End x; reply = y }) ∷ [] in run_of (pair_setting wants same) log).held.row_holds ≡ [])
+
+-- who waits for a row is woken by who closes it
+abbrev pub WaitersAreWoken : Type 0 → Type 0 → Type 0 → Type 0 → Type 0
+WaitersAreWoken I R D P =
+    (wants : P → D → Bool) (same : D → D → Bool) (p : P) (woken : List ℕ)
+    → (let log : List (Entry I R D P) = pair_log p in IsWoken (pair_setting wants same) (run_of (pair_setting wants same) log) (without_row (pair {D = D}) 1 corner 0) woken) → Contains woken 0
+
+-- the answer that was taken is handed to who asked
+abbrev pub AnswersAreHanded : Type 0 → Type 0 → Type 0 → Type 0 → Type 0
+AnswersAreHanded I R D P =
+    (p : P) (a : Answer D)
+    → (let mine : List (Entry I R D P) = (record { unit = 0; op = Ask (corner_query p); reply = Moved }) ∷ (record { unit = 0; op = Advance; reply = Ready }) ∷ taken 0 a ∷ [] in handed (told mine)) ≡ (Ask (corner_query p), Answered a) ∷ []
+
 -- ---- honesty
 
 -- a unit that gave nothing is honest, where it owes these things in each graph
@@ -139,7 +179,7 @@ abbrev pub CallsKeepHonest : (I : Type 0) {R D P : Type 0} → (GraphOf D → Sc
 CallsKeepHonest I {R} {D} {P} edges data_at asked result =
     (z : Setting D P) (u : ℕ) (past : Past I R D P) (given : Option (Op I R D P)) (last : Option (Reply I D P)) (op : Op I R D P)
     → IsHonest z u edges data_at asked result past given → IsHanded z u past given last → MayGive z u (with_last past given last) op
-    → ((g : GraphOf D) → AnswersAlike z g (with_last past given last) → GivesResults z u (edges g) (data_at g) (asked g) (result g) (with_last past given last) (Some op))
+    → ((g : GraphOf D) → AnswersAsTold z g (with_last past given last) → GivesResults z u (edges g) (data_at g) (asked g) (result g) (with_last past given last) (Some op))
     → IsHonest z u edges data_at asked result (with_last past given last) (Some op)
 
 -- ---- ended units

@@ -3,8 +3,10 @@ pub mod Example
 pub mod Honest
 pub mod Law
 pub mod Operation
+pub mod Orderly
 pub mod Own
 pub mod Run
+pub mod Served
 pub mod Step
 pub mod Trace
 pub mod Unit

@@ -35,3 +35,14 @@ waits_by waits Ready = false
 waits_by waits Suspended = true
 waits_by waits (Answered a) = waits
 waits_by waits Stuck = true
+
+-- whether the operation is an ask
+abbrev pub is_ask : {I R D P : Type 0} → Op I R D P → Bool
+is_ask (Fresh labels datum) = false
+is_ask (AddEdge from label to) = false
+is_ask (SetDatum s d) = false
+is_ask (CloseRow s l) = false
+is_ask (Ask q) = true
+is_ask Advance = false
+is_ask Take = false
+is_ask (End x) = false

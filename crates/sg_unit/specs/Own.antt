@@ -26,13 +26,13 @@ Names {D} (Paths fs) s = (f : Found D) × Contains fs f × Contains (f.path.star
 Names TooMany s = ⊥
 
 -- the opening lists the scope, one of these entries made it, or an answer of them names it
-abbrev pub Knows : {I R D P : Type 0} → Setting D P → List (Entry I R D P) → Scope → Type 0
-Knows {I} {R} {D} {P} z mine s = HasScope (run_of z mine).held.graph s ⊎ ((e : Entry I R D P) × Contains mine e × ((a : Answer D) × (e.reply ≡ Answered a) × Names a s))
+abbrev pub KnowsScope : {I R D P : Type 0} → Setting D P → List (Entry I R D P) → Scope → Type 0
+KnowsScope {I} {R} {D} {P} z mine s = HasScope (run_of z mine).held.graph s ⊎ ((e : Entry I R D P) × Contains mine e × ((a : Answer D) × (e.reply ≡ Answered a) × Names a s))
 
 -- the unit may do this next, as its own entries tell it: it is live, and the condition holds in the run of these entries alone, with the
 -- scopes that it knows
 abbrev pub MayBy : {I R D P : Type 0} → Setting D P → List (Entry I R D P) → ℕ → Op I R D P → Type 0
-MayBy z mine u op = IsTrue ((run_of z mine).live u) × Meets z (Knows z mine) (run_of z mine) u op
+MayBy z mine u op = IsTrue ((run_of z mine).live u) × Meets z (KnowsScope z mine) (run_of z mine) u op
 
 -- the scopes that have to be there for an operation
 abbrev pub Uses : {I R D P : Type 0} → Op I R D P → Scope → Type 0
@@ -46,24 +46,24 @@ Uses Take s = ⊥
 Uses (End x) s = ⊥
 
 -- the reply is one that an advance can have
-abbrev pub IsProgress : {I D P : Type 0} → Reply I D P → Type 0
-IsProgress Moved = Unit {0}
-IsProgress Ready = Unit {0}
-IsProgress Suspended = Unit {0}
-IsProgress Stuck = Unit {0}
-IsProgress (Made s) = ⊥
-IsProgress (Done woken) = ⊥
-IsProgress (Answered a) = ⊥
+abbrev pub IsAdvanceReply : {I D P : Type 0} → Reply I D P → Type 0
+IsAdvanceReply Moved = Unit {0}
+IsAdvanceReply Ready = Unit {0}
+IsAdvanceReply Suspended = Unit {0}
+IsAdvanceReply Stuck = Unit {0}
+IsAdvanceReply (Made s) = ⊥
+IsAdvanceReply (Done woken) = ⊥
+IsAdvanceReply (Answered a) = ⊥
 
 -- the reply is one that an end can have
-abbrev pub IsLast : {I D P : Type 0} → Reply I D P → Type 0
-IsLast (Done woken) = Unit {0}
-IsLast Stuck = Unit {0}
-IsLast (Made s) = ⊥
-IsLast Moved = ⊥
-IsLast Ready = ⊥
-IsLast Suspended = ⊥
-IsLast (Answered a) = ⊥
+abbrev pub IsEndReply : {I D P : Type 0} → Reply I D P → Type 0
+IsEndReply (Done woken) = Unit {0}
+IsEndReply Stuck = Unit {0}
+IsEndReply (Made s) = ⊥
+IsEndReply Moved = ⊥
+IsEndReply Ready = ⊥
+IsEndReply Suspended = ⊥
+IsEndReply (Answered a) = ⊥
 
 -- the reply is one that the operation can have, as far as the unit can tell
 abbrev pub CanReply : {I R D P : Type 0} → RunOf D P → ℕ → Op I R D P → Reply I D P → Type 0
@@ -72,9 +72,9 @@ CanReply r u (AddEdge from label to) y = y ≡ Done []
 CanReply r u (SetDatum s d) y = (woken : List ℕ) × (y ≡ Done woken)
 CanReply r u (CloseRow s l) y = (woken : List ℕ) × (y ≡ Done woken)
 CanReply r u (Ask q) y = y ≡ Moved
-CanReply r u Advance y = IsProgress y
+CanReply r u Advance y = IsAdvanceReply y
 CanReply {D = D} r u Take y = (a : Answer D) × (y ≡ Answered a)
-CanReply r u (End x) y = IsLast y
+CanReply r u (End x) y = IsEndReply y
 
 -- the entry is the unit's, meets its condition wherever its scopes are, and has a reply that it can have
 pub record IsOwnStep {I R D P : Type 0} (z : Setting D P) (u : ℕ) (r : RunOf D P) (e : Entry I R D P) : Type 0 where

@@ -1,9 +1,8 @@
 -- Runs: what a list of entries makes of an opening.
 use Rattle.std.specs.Prelude.{◌≡◌, ℕ, suc, List, [], ◌∷◌, Bool, false, ◌&&◌, not, ◌==◌, cond, length, nat_lt}
 use Rattle.std.specs.List.{list_any}
-use Rattle.sg_query.specs.declared.kind.Kind.{Kind}
 use Rattle.sg_query.specs.declared.query.Query.{Query}
-use Rattle.sg_query.specs.Query.{Asked, asked}
+use Rattle.sg_query.specs.Query.{KindOf, Asked, asked}
 use Rattle.sg_state.specs.Held.{HeldOf, with_fresh, with_edge, with_datum, without_row, without_unit}
 use Rattle.sg_unit.specs.declared.entry.Entry.{Entry}
 use Rattle.sg_unit.specs.declared.op.Op.{Op}
@@ -15,7 +14,7 @@ use Rattle.sg_unit.specs.Operation.{goes_on, woken_by, waits_by}
 -- what a run is about: the held graph that it begins with, the kinds of its queries, which data a predicate wants, and which count as one
 pub record Setting (D P : Type 0) : Type 0 where
   pub opening : HeldOf D
-  pub kinds : List Kind
+  pub kinds : List KindOf
   pub wants : P → D → Bool
   pub same : D → D → Bool
 

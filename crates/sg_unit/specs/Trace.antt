@@ -16,7 +16,7 @@ Past I R D P = List (Op I R D P × Reply I D P)
 
 -- what a unit gave and was told. It stands for the trace of `past` and `last`, its last operation, which it was handed no reply to;
 -- `reply` waits to be handed to it, where that operation has one
-pub record Told (I R D P : Type 0) : Type 0 where
+pub record Trace (I R D P : Type 0) : Type 0 where
   pub past : Past I R D P
   pub last : Option (Op I R D P)
   pub reply : Option (Reply I D P)
@@ -28,15 +28,15 @@ with_last past (Some op) None = past
 with_last past (Some op) (Some y) = past ++ (op, y) ∷ []
 
 -- all that the unit gave, once the reply that waits is handed to it
-abbrev pub handed : {I R D P : Type 0} → Told I R D P → Past I R D P
+abbrev pub handed : {I R D P : Type 0} → Trace I R D P → Past I R D P
 handed t = with_last t.past t.last t.reply
 
 -- the unit is handed the reply that waits, and gives its next operation
-abbrev pub gave : {I R D P : Type 0} → Told I R D P → Op I R D P → Option (Reply I D P) → Told I R D P
+abbrev pub gave : {I R D P : Type 0} → Trace I R D P → Op I R D P → Option (Reply I D P) → Trace I R D P
 gave t op y = record { past = handed t; last = Some op; reply = y }
 
 -- what an entry of the unit tells: the driver's advances tell nothing, and its take has the answer of the unit's ask
-abbrev pub told_after : {I R D P : Type 0} → Told I R D P → Op I R D P → Reply I D P → Told I R D P
+abbrev pub told_after : {I R D P : Type 0} → Trace I R D P → Op I R D P → Reply I D P → Trace I R D P
 told_after t (Fresh labels datum) y = gave t (Fresh labels datum) (Some y)
 told_after t (AddEdge from label to) y = gave t (AddEdge from label to) (Some y)
 told_after t (SetDatum s d) y = gave t (SetDatum s d) (Some y)
@@ -46,16 +46,16 @@ told_after t Advance y = t
 told_after t Take y = record { past = t.past; last = t.last; reply = Some y }
 told_after t (End x) y = gave t (End x) (Some y)
 
-abbrev pub told_from : {I R D P : Type 0} → Told I R D P → List (Entry I R D P) → Told I R D P
+abbrev pub told_from : {I R D P : Type 0} → Trace I R D P → List (Entry I R D P) → Trace I R D P
 told_from t [] = t
 told_from t (e ∷ es) = told_from (told_after t e.op e.reply) es
 
 -- a unit that gave nothing yet
-abbrev pub untold : {I R D P : Type 0} → Told I R D P
+abbrev pub untold : {I R D P : Type 0} → Trace I R D P
 untold = record { past = []; last = None; reply = None }
 
 -- what a unit with these entries gave and was told
-abbrev pub told : {I R D P : Type 0} → List (Entry I R D P) → Told I R D P
+abbrev pub told : {I R D P : Type 0} → List (Entry I R D P) → Trace I R D P
 told mine = told_from untold mine
 
 -- ---- the entries that a trace stands for

@@ -2,17 +2,17 @@
 use Rattle.std.specs.Prelude.{ℕ, List, Bool, Option, Some}
 use Rattle.sg_base.specs.declared.scope.Scope.{Scope}
 use Rattle.sg_base.specs.Graph.{GraphOf}
-use Rattle.sg_query.specs.declared.kind.Kind.{Kind}
 use Rattle.sg_query.specs.declared.query.Query.{Query}
+use Rattle.sg_query.specs.Query.{KindOf}
 use Rattle.sg_state.specs.Held.{HeldOf}
 use Rattle.sg_unit.specs.declared.op.Op.{Op}
 use Rattle.sg_unit.specs.declared.reply.Reply.{Reply}
-use Rattle.sg_unit.specs.Honest.{AnswersAlike, GivesResults}
+use Rattle.sg_unit.specs.Honest.{AnswersAsTold, GivesResults}
 use Rattle.sg_unit.specs.Run.{Setting}
 use Rattle.sg_unit.specs.Trace.{Past, with_last, MayGive, IsHanded}
 
 -- the setting with an instance's ways to compare data
-abbrev pub setting_of : {D P : Type 0} → (P → D → Bool) → (D → D → Bool) → HeldOf D → List Kind → Setting D P
+abbrev pub setting_of : {D P : Type 0} → (P → D → Bool) → (D → D → Bool) → HeldOf D → List KindOf → Setting D P
 setting_of wants same opening kinds = record { opening = opening; kinds = kinds; wants = wants; same = same }
 
 -- the unit stands for a trace after which it can be handed this
@@ -27,5 +27,5 @@ GoesOn {I} {R} {D} {P} z u Stood Stands last op =
 -- for each trace that the unit stood for, and each graph that answers as it was told: what it gave by now is what it owes in that graph
 abbrev pub GivesOwed : {I R D P : Type 0} → Setting D P → ℕ → (GraphOf D → Scope → ℕ → Scope → Type 0) → (GraphOf D → Scope → D → Type 0) → (GraphOf D → Query P → Type 0) → (GraphOf D → R → Type 0) → (Past I R D P → Option (Op I R D P) → Type 0) → Option (Reply I D P) → Op I R D P → Type 0
 GivesOwed {I} {R} {D} {P} z u edges data_at asks result Stood last op =
-    (past : Past I R D P) (given : Option (Op I R D P)) (g : GraphOf D) → Stood past given → IsHanded z u past given last → AnswersAlike z g (with_last past given last)
+    (past : Past I R D P) (given : Option (Op I R D P)) (g : GraphOf D) → Stood past given → IsHanded z u past given last → AnswersAsTold z g (with_last past given last)
     → GivesResults z u (edges g) (data_at g) (asks g) (result g) (with_last past given last) (Some op)

@@ -25,12 +25,12 @@ IsStillOpen h (Row s l) = IsOpen h s l
 IsStillOpen h (Datum s) = IsUnset h s
 
 -- the unit waits, and this blocks its query
-abbrev pub Needs : {D P : Type 0} → Setting D P → RunOf D P → ℕ → Need → Type 0
-Needs {D} {P} z r u n = IsTrue (r.waits u) × ((q : Query P) × (m : ℕ) × (r.asks u ≡ open_ask q m) × Blocks (state_of r.held) (asked_by z q) n)
+abbrev pub WaitsOn : {D P : Type 0} → Setting D P → RunOf D P → ℕ → Need → Type 0
+WaitsOn {D} {P} z r u n = IsTrue (r.waits u) × ((q : Query P) × (m : ℕ) × (r.asks u ≡ open_ask q m) × Blocks (state_of r.held) (asked_by z q) n)
 
 -- the unit waits for something that is no longer open in the later held graph
 abbrev pub Wakes : {D P : Type 0} → Setting D P → RunOf D P → HeldOf D → ℕ → Type 0
-Wakes z r h u = (n : Need) × Needs z r u n × (IsStillOpen (state_of h) n → ⊥)
+Wakes z r h u = (n : Need) × WaitsOn z r u n × (IsStillOpen (state_of h) n → ⊥)
 
 -- these are the units that the write wakes which leads to this held graph, in rising order
 abbrev pub IsWoken : {D P : Type 0} → Setting D P → RunOf D P → HeldOf D → List ℕ → Type 0
@@ -42,8 +42,8 @@ IsStuck r = ((u : ℕ) × IsTrue (r.live u)) × ((u : ℕ) → IsTrue (r.live u)
 
 -- this is the least need of the unit, and the least holder of that need
 pub record IsShown {D P : Type 0} (z : Setting D P) (r : RunOf D P) (u : ℕ) (n : Need) (holder : ℕ) : Type 0 where
-  pub needs : Needs z r u n
-  pub least : (m : Need) → Needs z r u m → need_cmp m n ≡ Less → ⊥
+  pub needs : WaitsOn z r u n
+  pub least : (m : Need) → WaitsOn z r u m → need_cmp m n ≡ Less → ⊥
   pub holds : Holds r.held holder n
   pub first : (v : ℕ) → Holds r.held v n → v < holder → ⊥
 

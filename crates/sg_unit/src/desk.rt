@@ -1,4 +1,4 @@
-ghost use Rattle.std.specs.Prelude.{◌≡◌, ◌++◌, ◌∷◌, [], true, false, IfOk, OnErr};
+ghost use Rattle.std.specs.Prelude.{◌≡◌, ◌<◌, ◌^◌, ◌++◌, ◌∷◌, [], true, false, length, IfOk, OnErr};
 ghost use Rattle.sg_unit.specs.Own.{MayBy, CanReply};
 ghost use Rattle.sg_unit.specs.Run.{run_of};
 ghost use Rattle.sg_unit.specs.Unit.{setting_of};
@@ -26,7 +26,7 @@ pub trait Desk {
     ghost sits: { Self → Self.Place → Type 0 };
 
     /// Applies one operation of the seat's unit, and tells its reply. After want of memory the unit's entries are as they were,
-    /// and the seat is spent. May wait for its turn.
+    /// and the seat is spent. There are never 2^63 entries, so that a caller can count its steps. May wait for its turn.
     fn apply<Rt: Threads + Wait + Sync>(
         &self,
         rt: &Rt,
@@ -37,6 +37,7 @@ pub trait Desk {
         requires may { MayBy (setting_of Self.Inst.wants Self.Inst.same_datum (Self.Place.opening seat.old) (Self.Place.kinds seat.old)) (Self.Place.mine seat.old) (Self.Place.number seat.old) op }
         ensures added { IfOk result (λ reply. Self.Place.mine seat.new ≡ Self.Place.mine seat.old ++ (record { unit = Self.Place.number seat.old; op = op; reply = reply }) ∷ []) }
         ensures reply { IfOk result (CanReply (run_of (setting_of Self.Inst.wants Self.Inst.same_datum (Self.Place.opening seat.old) (Self.Place.kinds seat.old)) (Self.Place.mine seat.old)) (Self.Place.number seat.old) op) }
+        ensures short { IfOk result (λ _. length (Self.Place.mine seat.new) < 2 ^ 63) }
         ensures unspent { IfOk result (λ _. Self.Place.spent seat.new ≡ false) }
         ensures err { OnErr result ((Self.Place.mine seat.new ≡ Self.Place.mine seat.old) × (Self.Place.spent seat.new ≡ true)) }
         ensures seat { sits self.now seat.new × (Self.Place.number seat.new ≡ Self.Place.number seat.old) }

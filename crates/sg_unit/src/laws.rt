@@ -1,6 +1,6 @@
 //! Laws of runs, each the contract of a function that does nothing.
 
-ghost use Rattle.sg_unit.specs.Law.{StatesFollow, AnswersLast, OwnEntriesAllow, RunsAllow, OwnEntriesRun, TracesAllow, TracesHand, TracesTell, RunsGrow, RunsHold, OwnRunsGrow, TracesGrow, WaitersAreHeldUp, StuckUnitsAreHeldUp, ShownHoldersWait, ItemsAreFew, AsksFall, EndedUnitsAskNothing, EndedUnitsTook, NewUnitsAreHonest, CallsKeepHonest, SomeGetStuck};
+ghost use Rattle.sg_unit.specs.Law.{StatesFollow, AnswersLast, OwnEntriesAllow, RunsAllow, OwnEntriesRun, OwnEntriesReply, TracesAllow, TracesHand, TracesTell, RunsGrow, RunsHold, OwnRunsGrow, TracesGrow, WaitersAreHeldUp, StuckUnitsAreHeldUp, ShownHoldersWait, ItemsAreFew, AsksFall, EndedUnitsAskNothing, EndedUnitsTook, NewUnitsAreHonest, CallsKeepHonest, SomeGetStuck, LonelyUnitsGetStuck, AskersDoNotEnd, HoldersAloneAdd, WaitersAreWoken, AnswersAreHanded};
 
 use crate::unit::Unit;
 use sg_base::Instance;
@@ -16,11 +16,12 @@ pub fn answers_last<I: Instance, R>()
 {}
 
 /// What a unit may do, and what it can be replied, its own entries tell: what they allow, the run allows, and the other way
-/// round where the unit knows the operation's scopes.
+/// round where the unit knows the operation's scopes; and each entry's reply is one that its operation can have.
 pub fn own_entries_tell<I: Instance, R>()
     ensures allow { OwnEntriesAllow I R I.Datum I.Pred }
     ensures allowed { RunsAllow I R I.Datum I.Pred }
     ensures own { OwnEntriesRun I R I.Datum I.Pred }
+    ensures reply { OwnEntriesReply I R I.Datum I.Pred }
 {}
 
 /// A run grows by a legal entry, a unit's own entries by what they allow, and its trace by what the entry tells.
@@ -68,4 +69,15 @@ pub fn calls_keep_units_honest<U: Unit>()
 /// Some runs get stuck.
 pub fn some_get_stuck<I: Instance, R>()
     ensures { SomeGetStuck I R I.Datum I.Pred }
+{}
+
+/// In runs of one scope and one or two units: who waits for itself is told Stuck and nothing else; who asks does not end; only
+/// a holder adds, and not after it closed its row or ended; who closes a row wakes who waits for it; and a unit is handed the
+/// answer that was taken.
+pub fn small_runs_are_told_apart<I: Instance, R>()
+    ensures stuck { LonelyUnitsGetStuck I R I.Datum I.Pred }
+    ensures asks { AskersDoNotEnd I R I.Datum I.Pred }
+    ensures holds { HoldersAloneAdd I R I.Datum I.Pred }
+    ensures woken { WaitersAreWoken I R I.Datum I.Pred }
+    ensures handed { AnswersAreHanded I R I.Datum I.Pred }
 {}

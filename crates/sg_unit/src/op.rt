@@ -1,3 +1,6 @@
+ghost use Rattle.std.specs.Prelude.{◌≡◌};
+ghost use Rattle.sg_unit.specs.Operation.{is_ask};
+
 use sg_base::{Instance, Label, LabelSet, Scope};
 use sg_query::Query;
 
@@ -27,4 +30,22 @@ pub enum Op<I: Instance, R> {
     Advance,
     Take,
     End(R),
+}
+
+impl<I: Instance, R> Op<I, R> {
+    /// Whether the operation is an ask, whose reply is not handed to its unit, but the answer that is taken later.
+    pub fn is_ask(&self) -> bool
+        ensures { result ≡ is_ask self.now }
+    {
+        match self {
+            Op::Fresh { .. } => false,
+            Op::AddEdge { .. } => false,
+            Op::SetDatum { .. } => false,
+            Op::CloseRow { .. } => false,
+            Op::Ask(_) => true,
+            Op::Advance => false,
+            Op::Take => false,
+            Op::End(_) => false,
+        }
+    }
 }

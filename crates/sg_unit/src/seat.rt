@@ -1,5 +1,5 @@
 ghost use Rattle.std.specs.Prelude.{◌≡◌, ℕ, List, Bool};
-ghost use Rattle.sg_query.specs.declared.kind.Kind.{Kind as KindOf};
+ghost use Rattle.sg_query.specs.Query.{KindOf};
 ghost use Rattle.sg_state.specs.Held.{HeldOf};
 ghost use Rattle.sg_unit.specs.declared.entry.Entry.{Entry as EntryOf};
 

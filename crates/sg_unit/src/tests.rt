@@ -1,10 +1,10 @@
 //! Small honest units, driven by hand.
 
-ghost use Rattle.std.specs.Prelude.{◌≡◌, ◌<◌, ◌-◌, ◌==◌, ◌++◌, ◌∷◌, [], ℕ, IsTrue, true, false, IfOk, OnErr};
+ghost use Rattle.std.specs.Prelude.{◌≡◌, ◌<◌, ◌-◌, ◌^◌, ◌==◌, ◌++◌, ◌∷◌, [], ℕ, IsTrue, true, false, length, IfOk, OnErr};
 ghost use Rattle.sg_unit.specs.Example.{corner_query, one_step, pair, AskerStands, IsAskersEdge, MakerStands, desk_reply};
 ghost use Rattle.sg_unit.specs.Own.{CanReply, IsOwnRun};
-ghost use Rattle.sg_unit.specs.Trace.{told};
 ghost use Rattle.sg_unit.specs.Run.{run_of, NoAsk};
+ghost use Rattle.sg_unit.specs.Served.{IsServed};
 ghost use Rattle.sg_unit.specs.Unit.{setting_of, CanBeHanded, GoesOn, GivesOwed};
 
 use crate::{Desk, Entry, Gate, NoGate, Op, Reply, Seat, Unit, Woken};
@@ -65,6 +65,8 @@ impl Instance for Numbers {
       symmetric = λ a b h. Prim.grind (arith, nat_tests);
       transitive = λ a b c h k. Prim.grind (arith, nat_tests);
     } };
+
+    ghost one_key = { λ a b h. Prim.grind (arith, nat_tests) };
 
     ghost keyed = { λ p d k e t. Prim.grind (arith, nat_tests) };
 }
@@ -283,6 +285,7 @@ impl Desk for OwnDesk {
         requires { seat.old.spent ≡ false }
         ensures added { IfOk result (λ reply. seat.new.log.items ≡ seat.old.log.items ++ (record { unit = 1; op = op; reply = reply }) ∷ []) }
         ensures reply { IfOk result (CanReply (run_of (setting_of (λ p d. p == d) (λ a b. a == b) pair one_step) seat.old.log.items) 1 op) }
+        ensures short { IfOk result (λ _. length seat.new.log.items < 2 ^ 63) }
         ensures unspent { IfOk result (λ _. seat.new.spent ≡ false) }
         ensures err { OnErr result ((seat.new.log.items ≡ seat.old.log.items) × (seat.new.spent ≡ true)) }
     {
@@ -307,23 +310,32 @@ impl Desk for OwnDesk {
     }
 }
 
-/// One operation of a unit that asks nothing, at a desk.
+/// One operation of a unit that asks nothing, at a desk. The reply that waits for the unit is handed to it, and the next one
+/// waits then.
 fn step<U: Unit, K: Desk<Inst = U::Inst, Outcome = U::Outcome>, Rt: Threads + Wait + Sync>(
     rt: &Rt,
     unit: &mut U,
     desk: &K,
     seat: &mut K::Place,
-    last: Option<Reply<U::Inst>>,
-) -> Result<Reply<U::Inst>, AllocError>
-    requires seat { K.sits desk.now seat.old × (K.Place.spent seat.old ≡ false) × (K.Place.number seat.old ≡ U.number unit.old) }
+    last: &mut Option<Reply<U::Inst>>,
+) -> Result<(), AllocError>
+    requires seat { K.sits desk.now seat.old × (K.Place.spent seat.old ≡ false) }
     requires run { (K.Place.opening seat.old ≡ U.opening (U.fixed unit.old)) × (K.Place.kinds seat.old ≡ U.kinds (U.fixed unit.old)) }
-    requires own { IsOwnRun (setting_of U.Inst.wants U.Inst.same_datum (K.Place.opening seat.old) (K.Place.kinds seat.old)) (K.Place.number seat.old) (K.Place.mine seat.old) }
-    requires free { NoAsk (run_of (setting_of U.Inst.wants U.Inst.same_datum (K.Place.opening seat.old) (K.Place.kinds seat.old)) (K.Place.mine seat.old)) (K.Place.number seat.old) × IsTrue ((run_of (setting_of U.Inst.wants U.Inst.same_datum (K.Place.opening seat.old) (K.Place.kinds seat.old)) (K.Place.mine seat.old)).live (K.Place.number seat.old)) }
-    requires stands { U.stands unit.old (told (K.Place.mine seat.old)).past (told (K.Place.mine seat.old)).last × (last ≡ (told (K.Place.mine seat.old)).reply) }
-    ensures own { IfOk result (λ _. IsOwnRun (setting_of U.Inst.wants U.Inst.same_datum (K.Place.opening seat.old) (K.Place.kinds seat.old)) (K.Place.number seat.old) (K.Place.mine seat.new)) }
+    requires own { IsOwnRun (setting_of U.Inst.wants U.Inst.same_datum (U.opening (U.fixed unit.old)) (U.kinds (U.fixed unit.old))) (K.Place.number seat.old) (K.Place.mine seat.old) }
+    requires free { NoAsk (run_of (setting_of U.Inst.wants U.Inst.same_datum (U.opening (U.fixed unit.old)) (U.kinds (U.fixed unit.old))) (K.Place.mine seat.old)) (K.Place.number seat.old) × IsTrue ((run_of (setting_of U.Inst.wants U.Inst.same_datum (U.opening (U.fixed unit.old)) (U.kinds (U.fixed unit.old))) (K.Place.mine seat.old)).live (K.Place.number seat.old)) }
+    requires served { IsServed U.Inst.wants U.Inst.same_datum U.opening U.kinds U.owes_edge U.owes_datum U.may_ask U.comes_to U.number U.fixed U.stands (K.Place.mine seat.old) (K.Place.number seat.old) (U.fixed unit.old) unit.old last.old }
+    ensures own { IfOk result (λ _. IsOwnRun (setting_of U.Inst.wants U.Inst.same_datum (U.opening (U.fixed unit.old)) (U.kinds (U.fixed unit.old))) (K.Place.number seat.old) (K.Place.mine seat.new)) }
+    ensures served { IfOk result (λ _. IsServed U.Inst.wants U.Inst.same_datum U.opening U.kinds U.owes_edge U.owes_datum U.may_ask U.comes_to U.number U.fixed U.stands (K.Place.mine seat.new) (K.Place.number seat.old) (U.fixed unit.old) unit.new last.new) }
+    ensures short { IfOk result (λ _. length (K.Place.mine seat.new) < 2 ^ 63) }
 {
-    let op = unit.next(last)?;
-    desk.apply(rt, seat, op)
+    let handed = last.take();
+    let op = unit.next(handed)?;
+    let asks = op.is_ask();
+    let reply = desk.apply(rt, seat, op)?;
+    if !asks {
+        *last = Some(reply);
+    }
+    Ok(())
 }
 
 #[test]
@@ -409,7 +421,18 @@ fn an_asker_steps_at_a_desk(rt: HostRuntime) -> Result<(), Fail> {
         log: Vec::new(rt.alloc()),
         spent: false,
     };
-    let reply = step(&rt, &mut unit, &OwnDesk, &mut seat, None)?;
-    assert!(rt; matches!(&reply, Reply::Moved));
+    let mut last = None;
+    step(&rt, &mut unit, &OwnDesk, &mut seat, &mut last)?;
+    assert!(rt; last.is_none());
+    assert!(rt;
+        matches!(
+            seat.log.as_slice(),
+            [Entry {
+                op: Op::Ask(_),
+                reply: Reply::Moved,
+                ..
+            }]
+        )
+    );
     Ok(())
 }

@@ -1,7 +1,7 @@
 ghost use Rattle.std.specs.Prelude.{◌≡◌, ◌<◌, ℕ, List, Option, IfOk, OnErr};
 ghost use Rattle.sg_base.specs.declared.scope.Scope.{Scope as ScopeOf};
 ghost use Rattle.sg_base.specs.Graph.{GraphOf};
-ghost use Rattle.sg_query.specs.declared.kind.Kind.{Kind as KindOf};
+ghost use Rattle.sg_query.specs.Query.{KindOf};
 ghost use Rattle.sg_query.specs.declared.query.Query.{Query as QueryOf};
 ghost use Rattle.sg_state.specs.Held.{HeldOf};
 ghost use Rattle.sg_unit.specs.declared.op.Op.{Op as OpOf};

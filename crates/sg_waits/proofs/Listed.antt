@@ -1,11 +1,11 @@
 -- Listings: when two are one, and what comes of adding needs and taking them off one after another.
-use Rattle.std.proofs.Common.{◌≡◌, ℕ, ◌+◌, ◌<◌, List, [], ◌⊎◌, ◌↔◌, IsTrue, Result, Ok, Err, true, false, inl, inr, refl, sym, ap, ◌∙◌, subst, length, take, drop, get_or}
+use Rattle.std.proofs.Common.{◌≡◌, ℕ, ◌+◌, ◌<◌, List, [], ◌∷◌, ◌⊎◌, ◌↔◌, Bool, eqb, IsTrue, Result, Ok, Err, true, false, inl, inr, refl, sym, ap, ◌∙◌, subst, length, take, drop, get_or, arith}
 use Rattle.std.proofs.lemmas.List.{take-append-drop}
 use Rattle.std.proofs.lemmas.List.Elements.{Contains-append_left}
 use Rattle.std.specs.BTreeMap.{is_at}
 use Rattle.std.specs.BTreeSet.{insert_key}
-use Rattle.std.specs.List.{Contains}
-use Rattle.std.specs.List.Sorted.{IsSearchInRange, IsBinarySearchResult}
+use Rattle.std.specs.List.{Contains, dedup}
+use Rattle.std.specs.List.Sorted.{IsPermutation, IsSorted, IsSearchInRange, IsBinarySearchResult}
 use Rattle.std.specs.Result.{is_ok, is_err}
 use Rattle.std.specs.Set.{remove_key}
 use Rattle.std.specs.Ordering.{nat_cmp}
@@ -13,16 +13,19 @@ use Rattle.std.specs.declared.cmp.Ordering.{Ordering}
 use Rattle.std.specs.declared.cmp.Ordering.TheVariants.{Equal}
 use Rattle.sg_base.specs.declared.scope.Scope.{Scope}
 use Rattle.sg_base.specs.List.{IsRising}
-use Rattle.sg_base.specs.Scope.{scope_cmp}
-use Rattle.sg_base.proofs.Finite.{nothing_in}
+use Rattle.sg_base.specs.Scope.{is_scope, scope_cmp}
+use Rattle.sg_base.proofs.Finite.{nothing_in, Contains-head}
 use Rattle.sg_base.proofs.Rising.{rising_one}
 use Rattle.sg_base.proofs.Searching.{found}
-use Rattle.sg_base.proofs.Scopes.{equal_nat, equal_scope, then_equal}
+use Rattle.sg_base.proofs.Scopes.{equal_nat, equal_scope, then_equal, scope_same, same_scope, number_same, number_itself, both_true}
 use Rattle.sg_state.specs.declared.need.Need.{Need}
 use Rattle.sg_state.specs.declared.need.Need.TheVariants.{Row, Datum}
-use Rattle.sg_state.specs.Need.{need_cmp, need_order, need_order_is, need_order_total, need_orders}
+use Rattle.sg_state.specs.Need.{need_cmp, need_order, need_order_is, need_order_total, need_orders, need_total}
+use Rattle.sg_state.specs.contracts.need.NeedPartialEq.TheImpl as derived
+use Rattle.sg_state.proofs.EachOnce.{each_once_rises, each_once_holds}
 use Rattle.sg_waits.specs.declared.listing.Listing.{Listing}
 use Rattle.sg_waits.specs.Listing.{listing_cmp, listing_total, AddsNeeds, AddsSome, TakesOff, Relists}
+use Rattle.sg_waits.specs.Waits.{IsRisingOf}
 use Rattle.sg_waits.proofs.Sets.{taken_more, inserted, removed}
 
 -- ---- when two are one
@@ -37,6 +40,48 @@ equal_case (Datum s) (Datum t) h = ap (λ (x : Scope). let n : Need = Datum x in
 
 pub equal_need : (a b : Need) → need_order a b ≡ Equal → a ≡ b
 equal_need a b h = equal_case a b (sym (need_order_is a b) ∙ h)
+
+-- whether two needs are the same, as the code tells it
+abbrev pub is_need : Need → Need → Bool
+is_need = (derived.ghosts).eq
+
+same_need : (a b : Need) → is_need a b ≡ true → a ≡ b
+same_need (Row s l) (Row t m) e =
+    let k = both_true (is_scope s t) (eqb l m) e in
+    ap (λ (x : Scope). let n : Need = Row x l in n) (scope_same s t k.0) ∙ ap (λ (x : ℕ). let n : Need = Row t x in n) (number_same l m k.1)
+same_need (Row s l) (Datum t) e = absurd (cc)
+same_need (Datum s) (Row t m) e = absurd (cc)
+same_need (Datum s) (Datum t) e = ap (λ (x : Scope). let n : Need = Datum x in n) (scope_same s t e)
+
+need_itself : (a : Need) → is_need a a ≡ true
+need_itself (Row s l) = let k = same_scope s s refl in let m = number_itself l in cc
+need_itself (Datum s) = same_scope s s refl
+
+some_within : (xs : List Need) → 0 < length xs → (n : Need) × Contains xs n
+some_within [] l = absurd (omega arith)
+some_within (x ∷ xs) l = (x, Contains-head x xs)
+
+within_some : (xs : List Need) (n : Need) → Contains xs n → 0 < length xs
+within_some [] n c = absurd (nothing_in n c)
+within_some (x ∷ xs) n c = omega arith
+
+-- what is sorted, without what stands twice
+module _ (xs ys : List Need) (moved : IsPermutation xs ys) (sorted : IsSorted need_order ys) where
+  by_needs : IsSorted need_cmp ys
+  by_needs = subst (λ (R : Need → Need → Ordering). IsSorted R ys) need_orders sorted
+
+  pub once : IsRisingOf xs (dedup is_need ys)
+  once = record {
+    rising = each_once_rises need_cmp need_total equal_case is_need same_need need_itself xs ys moved by_needs;
+    exact = each_once_holds need_cmp need_total equal_case is_need same_need need_itself xs ys moved by_needs;
+  }
+
+  pub some_once : 0 < length xs → 0 < length (dedup is_need ys)
+  some_once l = let k = some_within xs l in within_some (dedup is_need ys) k.0 ((once.exact k.0).1 k.1)
+
+-- what rises already is kept as it is
+pub as_given : (needs ns : List Need) → IsRisingOf needs ns → IsRising need_cmp needs → ns ≡ needs
+as_given needs ns k r = rising_one need_cmp need_total ns needs k.rising r k.exact
 
 pub listing_by : (a b : Listing) → a.need ≡ b.need → a.unit ≡ b.unit → a ≡ b
 listing_by a b n u =
@@ -55,10 +100,10 @@ order_rising ns r = subst (λ (R : Need → Need → Ordering). IsRising R ns) (
 pub adds_none : (ks : List Listing) (unit : ℕ) → AddsNeeds ks ks [] unit
 adds_none ks unit = λ k. ((λ c. inl c), (λ h. elim h [ inl c ↦ c | inr e ↦ absurd (nothing_in k.need e.1) ]))
 
-pub adds_more : (old ks : List Listing) (needs : List Need) (i : ℕ) (n : Need) (unit : ℕ) → i < length needs → n ≡ get_or needs i n → AddsNeeds old ks (take i needs) unit → AddsNeeds old (insert_key listing_cmp ks (record { need = n; unit = unit })) (take (i + 1) needs) unit
-adds_more old ks needs i n unit lt is before = λ k.
+pub adds_more : (old ks new : List Listing) (needs : List Need) (i : ℕ) (n : Need) (unit : ℕ) → i < length needs → n ≡ get_or needs i n → AddsNeeds old ks (take i needs) unit → ((k : Listing) → (Contains new k) ↔ (Contains ks k ⊎ (k ≡ record { need = n; unit = unit }))) → AddsNeeds old new (take (i + 1) needs) unit
+adds_more old ks new needs i n unit lt is before one = λ k.
     let more = taken_more needs i n lt k.need in
-    let put = inserted listing_cmp listing_total equal_listing ks (record { need = n; unit = unit }) k in (
+    let put = one k in (
       (λ c. elim (put.0 c) [
         | inl m ↦ elim ((before k).0 m) [ inl o ↦ inl o | inr e ↦ inr (e.0, more.1 (inl e.1)) ]
         | inr e ↦ inr (ap (λ (x : Listing). x.unit) e, more.1 (inr (ap (λ (x : Listing). x.need) e ∙ is)))
@@ -154,9 +199,18 @@ pub was_ok : (r : Result ℕ ℕ) → is_err r ≡ false → is_ok r ≡ true
 was_ok (Ok at) e = refl
 was_ok (Err at) e = absurd (cc)
 
+pub listed_one : (ks : List Listing) (l : Listing) (k : Listing) → (Contains (insert_key listing_cmp ks l) k) ↔ (Contains ks k ⊎ (k ≡ l))
+listed_one ks l k = inserted listing_cmp listing_total equal_listing ks l k
+
 module _ (old : List Listing) (need : Need) (unit : ℕ) (keep : List Need) (rising : IsRising need_cmp keep) (r : Result ℕ ℕ) (within : IsSearchInRange r (length keep)) (hit : IsBinarySearchResult (λ y. need_order y need) keep r) where
   kept_or_not : (IsTrue (is_ok r)) ↔ (Contains keep need)
   kept_or_not = found need_order need_order_total equal_need keep (order_rising keep rising) need r within hit
+
+  pub one_stays : (Contains keep need → Contains old (record { need = need; unit = unit })) → is_ok r ≡ true → (k : Listing) → (Contains old k) ↔ (Contains old k ⊎ (k ≡ record { need = need; unit = unit }))
+  one_stays there e = λ k. (
+    (λ c. inl c),
+    (λ h. elim h [ inl c ↦ c | inr s ↦ subst (λ (l : Listing). Contains old l) (sym s) (there (kept_or_not.0 e)) ]),
+  )
 
   pub one_left : is_ok r ≡ true → (k : Listing) → (Contains old k) ↔ (Contains old k × (k ≡ record { need = need; unit = unit } → Contains keep need))
   one_left e = λ k. ((λ c. (c, (λ _. kept_or_not.0 e))), (λ h. h.0))

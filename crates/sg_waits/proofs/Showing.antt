@@ -16,7 +16,7 @@ use Rattle.sg_base.proofs.Rows.{equal_of}
 use Rattle.sg_state.specs.declared.need.Need.{Need}
 use Rattle.sg_state.specs.Need.{need_cmp, need_total, need_order, need_order_total}
 use Rattle.sg_waits.specs.declared.shown.ShownItem.{ShownItem}
-use Rattle.sg_waits.specs.Shown.{IsLeastNeed, IsLeastHolder, NamesHolders, IsShown, IsLeastAt, less_of, holder_at, Lowers, held_item, item_of, items_below}
+use Rattle.sg_waits.specs.Shown.{IsLeastNeed, IsLeastHolder, NamesHolders, AreShown, IsLeastAt, less_of, holder_at, Lowers, held_item, item_of, items_below}
 use Rattle.sg_waits.specs.Waits.{WaitsOf, needs_at, IsWaiting}
 use Rattle.sg_waits.proofs.Listed.{equal_need}
 use Rattle.sg_waits.proofs.Sets.{taken_more}
@@ -196,7 +196,7 @@ module _ (ws : WaitsOf) (hs es : List (Need × ℕ)) (least : (n : Need) → IsL
       least_of n None b some = absurd (b some.0 some.1)
       least_of n (Some h) b some = (h, b)
 
-  pub all_shown : ((u : ℕ) → IsWaiting ws u → 0 < length (needs_at ws u)) → IsShown ws hs (items_below ws es (length ws))
+  pub all_shown : ((u : ℕ) → IsWaiting ws u → 0 < length (needs_at ws u)) → AreShown ws hs (items_below ws es (length ws))
   all_shown some = record {
     rising = rises (length ws);
     exact = λ i. (

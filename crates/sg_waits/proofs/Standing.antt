@@ -1,5 +1,5 @@
 -- Tables of units: how they stand after a write, and how many run and wait.
-use Rattle.std.proofs.Common.{◌≡◌, ℕ, zero, suc, ◌+◌, ◌<◌, ◌≤◌, [], ◌∷◌, ◌⊎◌, Bool, true, false, IsTrue, cond, inl, inr, refl, sym, ap, subst, length, replicate, slice_set, count_by, arith}
+use Rattle.std.proofs.Common.{◌≡◌, ℕ, zero, suc, ◌+◌, ◌<◌, ◌≤◌, [], ◌∷◌, ◌⊎◌, Bool, true, false, IsTrue, cond, inl, inr, refl, sym, ap, subst, length, replicate, slice_set, slice_index_or, count_by, arith}
 use Rattle.std.proofs.lemmas.List.Sums.{sum_by-cons, sum_by-set, get_or-le-sum_by}
 use Rattle.std.specs.List.{Contains}
 use Rattle.sg_base.proofs.Finite.{nothing_in}
@@ -27,6 +27,11 @@ set_other (w ∷ ws) zero s zero n = absurd (n refl)
 set_other (w ∷ ws) zero s (suc v) n = refl
 set_other (w ∷ ws) (suc u) s zero n = refl
 set_other (w ∷ ws) (suc u) s (suc v) n = set_other ws u s v (λ e. n (ap suc e))
+
+pub status_is : (ws : WaitsOf) (u : ℕ) (s : Status) → u < length ws → slice_index_or ws u s ≡ status_at ws u
+status_is [] u s l = absurd (omega arith)
+status_is (w ∷ ws) zero s l = refl
+status_is (w ∷ ws) (suc u) s l = status_is ws u s (omega arith)
 
 pub set_itself : (ws : WaitsOf) (u : ℕ) (s : Status) → u < length ws → status_at ws u ≡ s → slice_set ws u s ≡ ws
 set_itself [] u s l e = refl

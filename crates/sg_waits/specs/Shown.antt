@@ -24,7 +24,7 @@ abbrev pub NamesHolders : WaitsOf → List (Need × ℕ) → Type 0
 NamesHolders ws hs = (u : ℕ) (n : Need) → IsLeastNeed (needs_at ws u) n → (h : ℕ) × Contains hs (n, h)
 
 -- one item for each waiting unit, in rising order of units, with its least need and the least holder of that
-pub record IsShown (ws : WaitsOf) (hs : List (Need × ℕ)) (items : List ShownItem) : Type 0 where
+pub record AreShown (ws : WaitsOf) (hs : List (Need × ℕ)) (items : List ShownItem) : Type 0 where
   pub rising : IsRising (on (λ i. i.unit) nat_cmp) items
   pub exact : (i : ShownItem) → (Contains items i) ↔ (IsLeastNeed (needs_at ws i.unit) i.need × IsLeastHolder hs i.need i.holder)
   pub each : (u : ℕ) → IsWaiting ws u → (i : ShownItem) × Contains items i × (i.unit ≡ u)

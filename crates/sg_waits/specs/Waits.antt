@@ -1,7 +1,9 @@
 -- The units of a run: which have ended, which run, and what the others wait for.
-use Rattle.std.specs.Prelude.{◌≡◌, ℕ, ◌<◌, List, [], Bool, true, false, IsTrue, length, slice_index_or, slice_set}
+use Rattle.std.specs.Prelude.{◌≡◌, ℕ, ◌<◌, ◌↔◌, List, [], Bool, true, false, IsTrue, length, slice_index_or, slice_set}
 use Rattle.std.specs.List.{Contains}
+use Rattle.sg_base.specs.List.{IsRising}
 use Rattle.sg_state.specs.declared.need.Need.{Need}
+use Rattle.sg_state.specs.Need.{need_cmp}
 use Rattle.sg_waits.specs.declared.status.Status.{Status}
 use Rattle.sg_waits.specs.declared.status.Status.TheVariants.{Ended, Runs, Waits}
 
@@ -65,9 +67,18 @@ pub record IsLeastRunning (ws : WaitsOf) (u : ℕ) : Type 0 where
   pub least : (v : ℕ) → v < u → status_at ws v ≡ Runs → ⊥
 
 -- some unit is live, and each live unit waits
-pub record IsStuck (ws : WaitsOf) : Type 0 where
+pub record AllWait (ws : WaitsOf) : Type 0 where
   pub some : (u : ℕ) × IsLive ws u
   pub each : (u : ℕ) → IsLive ws u → IsWaiting ws u
+
+-- the rising list of these needs, each once
+pub record IsRisingOf (needs ns : List Need) : Type 0 where
+  pub rising : IsRising need_cmp ns
+  pub exact : (n : Need) → (Contains ns n) ↔ (Contains needs n)
+
+-- the unit waits for these needs in the new table, and each other unit stands as before
+abbrev pub Notes : WaitsOf → WaitsOf → ℕ → List Need → Type 0
+Notes old new u needs = (ns : List Need) × IsRisingOf needs ns × (new ≡ slice_set old u (Waits ns))
 
 -- the table in which one more unit runs
 abbrev pub set_running : WaitsOf → ℕ → WaitsOf

@@ -14,17 +14,49 @@ use sg_state::Need;
 use std::alloc::{AllocError, Global};
 use std::collections::BTreeSet;
 
-/// Lists a unit for more needs, by a look-up for each. Where memory is wanting, some of them may be listed.
-pub fn add(listings: &mut BTreeSet<Listing>, needs: &[Need], unit: u32) -> Result<(), AllocError>
+/// Lists a unit for a need, unless it is one of those for which it is listed already. Costs a binary search among these,
+/// and else a look-up.
+pub fn add_one(
+    listings: &mut BTreeSet<Listing>,
+    need: Need,
+    listed: &[Need],
+    unit: u32,
+) -> Result<(), AllocError>
     requires rising { IsRising listing_cmp listings.old.keys }
+    requires listed_rise { IsRising need_cmp listed.now }
+    requires there { Contains listed.now need → Contains listings.old.keys (record { need = need; unit = unit }) }
+    ensures ok { OnOk result ((k : ListingOf) → (Contains listings.new.keys k) ↔ (Contains listings.old.keys k ⊎ (k ≡ record { need = need; unit = unit }))) }
+    ensures err { OnErr result (listings.new.keys ≡ listings.old.keys) }
+    ensures rising { IsRising listing_cmp listings.new.keys }
+{
+    if listed.binary_search(&need).is_ok() {
+        return Ok(());
+    }
+    match listings.insert(Listing { need, unit }) {
+        Ok(_) => Ok(()),
+        Err(_) => Err(AllocError),
+    }
+}
+
+/// Lists a unit for these needs beside those for which it is listed already. Costs a binary search for each, and a look-up
+/// for each that is new. Where memory is wanting, some of them may be listed.
+pub fn add(
+    listings: &mut BTreeSet<Listing>,
+    needs: &[Need],
+    listed: &[Need],
+    unit: u32,
+) -> Result<(), AllocError>
+    requires rising { IsRising listing_cmp listings.old.keys }
+    requires listed_rise { IsRising need_cmp listed.now }
+    requires there { (n : NeedOf) → Contains listed.now n → Contains listings.old.keys (record { need = n; unit = unit }) }
     ensures ok { OnOk result (AddsNeeds listings.old.keys listings.new.keys needs.now unit) }
     ensures some { AddsSome listings.old.keys listings.new.keys needs.now unit }
     ensures rising { IsRising listing_cmp listings.new.keys }
 {
     for need in needs {
-        match listings.insert(Listing { need: *need, unit }) {
-            Ok(_) => {}
-            Err(_) => return Err(AllocError),
+        match add_one(listings, *need, listed, unit) {
+            Ok(()) => {}
+            Err(error) => return Err(error),
         }
     }
     Ok(())
@@ -54,7 +86,8 @@ pub fn take_off(listings: &mut BTreeSet<Listing>, needs: &[Need], keep: &[Need],
     }
 }
 
-/// Lists a unit for these needs in place of those before. After want of memory nothing has changed.
+/// Lists a unit for these needs in place of those before. Costs a binary search for each need, of these and of those before,
+/// and a look-up for each that only one of the two lists has. After want of memory nothing has changed.
 pub fn change(
     listings: &mut BTreeSet<Listing>,
     before: &[Need],
@@ -69,7 +102,7 @@ pub fn change(
     ensures rising { IsRising listing_cmp listings.new.keys }
     ensures err { OnErr result (listings.new.keys ≡ listings.old.keys) }
 {
-    match add(listings, needs, unit) {
+    match add(listings, needs, before, unit) {
         Ok(()) => {
             take_off(listings, before, needs, unit);
             Ok(())
@@ -81,7 +114,7 @@ pub fn change(
     }
 }
 
-/// Adds the units that wait for a need, each by a look-up.
+/// Adds the units that are listed for a need, each by a look-up.
 pub fn gather(
     listings: &BTreeSet<Listing>,
     need: &Need,
@@ -107,8 +140,8 @@ pub fn gather(
     Ok(())
 }
 
-/// The units that wait for one of these needs. Costs a look-up for each of the needs and for each unit found.
-pub fn waiting_for(
+/// The units that are listed for one of these needs. Costs a look-up for each of the needs and for each unit found.
+pub fn listed_for(
     alloc: Global,
     listings: &BTreeSet<Listing>,
     gone: &[Need],

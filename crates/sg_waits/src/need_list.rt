@@ -1,6 +1,7 @@
 ghost use Rattle.std.specs.Prelude.{◌≡◌, ◌<◌, length, IfOk};
 ghost use Rattle.sg_base.specs.List.{IsRising};
 ghost use Rattle.sg_state.specs.Need.{need_cmp};
+ghost use Rattle.sg_waits.specs.Waits.{IsRisingOf};
 
 use sg_state::Need;
 use std::alloc::{AllocError, Global};
@@ -26,14 +27,15 @@ impl Model for NeedList {
 }
 
 impl NeedList {
-    /// A copy of these needs.
-    pub fn copy(alloc: Global, needs: &[Need]) -> Result<NeedList, AllocError>
-        requires rising { IsRising need_cmp needs.now }
+    /// These needs in rising order, each once. Costs one sort.
+    pub fn of(alloc: Global, needs: &[Need]) -> Result<NeedList, AllocError>
         requires some { 0 < length needs.now }
-        ensures { IfOk result (λ l. l ≡ needs.now) }
+        ensures { IfOk result (λ l. IsRisingOf needs.now l) }
     {
-        let needs = needs.to_vec(alloc)?;
-        Ok(NeedList { needs })
+        let mut list = needs.to_vec(alloc)?;
+        list.sort_unstable();
+        list.dedup();
+        Ok(NeedList { needs: list })
     }
 
     /// The needs in rising order.

@@ -4,6 +4,7 @@ ghost use Rattle.std.specs.Prelude.{◌≡◌, replicate, IfOk};
 ghost use Rattle.sg_base.specs.List.{IsRising};
 ghost use Rattle.sg_state.specs.Need.{need_cmp};
 ghost use Rattle.sg_waits.specs.declared.status.Status.TheVariants.{Runs};
+ghost use Rattle.sg_waits.specs.Table.{listed_at};
 ghost use Rattle.sg_waits.specs.Waits.{status_at, needs_at, is_live, runs, waits};
 
 use crate::status::Status;
@@ -34,6 +35,19 @@ pub fn needs_at(units: &[Status], unit: u32) -> &[Need]
         Some(Status::Runs) => &[],
         Some(Status::Ended) => &[],
         None => &[],
+    }
+}
+
+/// What a unit is listed for, in rising order, where the second table has how units stood when they last waited.
+pub fn listed_at<'a>(units: &'a [Status], kept: &'a [Status], unit: u32) -> &'a [Need]
+    ensures needs { result.now ≡ listed_at units.now kept.now unit }
+    ensures rising { IsRising need_cmp result.now }
+{
+    match units.get(unit as usize) {
+        Some(Status::Waits(needs)) => needs.as_slice(),
+        Some(Status::Runs) => needs_at(kept, unit),
+        Some(Status::Ended) => needs_at(kept, unit),
+        None => needs_at(kept, unit),
     }
 }
 

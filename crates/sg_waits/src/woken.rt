@@ -1,5 +1,8 @@
-ghost use Rattle.std.specs.Prelude.{◌≡◌, IfOk};
+ghost use Rattle.std.specs.Prelude.{◌≡◌, filter, IfOk};
+ghost use Rattle.sg_waits.specs.Waits.{status_at, waits};
 
+use crate::status::Status;
+use crate::units;
 use std::alloc::{AllocError, Global};
 use std::collections::BTreeSet;
 use std::marker::Model;
@@ -19,15 +22,18 @@ impl Model for Woken {
 }
 
 impl Woken {
-    /// The units of a set, in rising order.
-    pub(crate) fn of(alloc: Global, set: &BTreeSet<u32>) -> Result<Woken, AllocError>
-        ensures { IfOk result (λ w. w ≡ set.now.keys) }
+    /// The units of a set that wait, in rising order.
+    pub(crate) fn of(
+        alloc: Global,
+        set: &BTreeSet<u32>,
+        table: &[Status],
+    ) -> Result<Woken, AllocError>
+        ensures { IfOk result (λ w. w ≡ filter (λ u. waits (status_at table.now u)) set.now.keys) }
     {
         let mut units = Vec::new(alloc);
         for unit in set {
-            match units.push(*unit) {
-                Ok(()) => {}
-                Err(_) => return Err(AllocError),
+            if units::waits(table, *unit) {
+                units.push(*unit)?;
             }
         }
         Ok(Woken { units })

@@ -18,5 +18,6 @@ returns-clause-ok g c =
       query = c.advance.ensures.query;
       table = c.advance.ensures.table;
       stands = c.advance.ensures.stands;
+      more = c.advance.ensures.more;
       progress = h;
     }) c.advance.ensures.progress

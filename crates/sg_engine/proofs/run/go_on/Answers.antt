@@ -1,5 +1,6 @@
 use Rattle.std.proofs.Common.{ℕ, IfOk, inr, subst}
 use Rattle.sg_state.specs.Held.{state_of}
+use Rattle.sg_engine.specs.Keyed.{wanting_by}
 use Rattle.sg_engine.specs.Run.{IsSearchIn, IsReply}
 use Rattle.sg_engine.specs.declared.progress.Progress.{Progress}
 use Rattle.sg_engine.proofs.Listing.{back_chain}
@@ -7,26 +8,26 @@ use Rattle.sg_engine.proofs.Running.{free_item}
 use Rattle.sg_engine.proofs.run.go_on.Goals as goal
 
 pub returns-in-Many-clause-stands : goal.returns-in-Many-clause-stands
-returns-in-Many-clause-stands g c = λ q s.
+returns-in-Many-clause-stands g c = λ q ps s.
     let r = rw c.in-Many.is at c.in_ok-run_on.ensures.ran in
-    (c.in_ok-run_on.ensures.stands q s, (r.1, inr r.0))
+    (c.in_ok-run_on.ensures.stands q ps s, (r.1, inr r.0))
 
 pub returns-in-Free-clause-stands : goal.returns-in-Free-clause-stands
-returns-in-Free-clause-stands g c = λ q s.
-    let k = c.in_ok-run_on.ensures.stands q s in
+returns-in-Free-clause-stands g c = λ q ps s.
+    let k = c.in_ok-run_on.ensures.stands q ps s in
     let r = rw c.in-Free.is at c.in_ok-run_on.ensures.ran in
     (k, (r.1, free_item (state_of c.args.h.now) q c.run_on.new.tree (k.0).0 r.2 r.3 r.4, r.0))
 
 pub returns-in-Over-clause-stands : goal.returns-in-Over-clause-stands
-returns-in-Over-clause-stands g c = λ q s.
+returns-in-Over-clause-stands g c = λ q ps s.
     let h = state_of c.args.h.now in
-    let wants = g.I.Instance.wants c.args.pred.now in
+    let k0 = wanting_by g.I.Instance.wants g.I.Instance.datum_key g.I.Instance.pred_key c.args.pred.now in
     let v = c.look_again.new.tree in
     let r = rw c.in-Over.is at c.in_ok-run_on.ensures.ran in
-    subst (λ (n : ℕ). IfOk c.look_again.result (λ (p : Progress). IsSearchIn h wants q v × IsReply h q n v p)) r.1 (c.look_again.ensures.stands q (c.in_ok-run_on.ensures.stands q s))
+    subst (λ (n : ℕ). IfOk c.look_again.result (λ (p : Progress). IsSearchIn c.args.h.now k0 ps q v × IsReply h q n v p)) r.1 (c.look_again.ensures.stands q ps (c.in_ok-run_on.ensures.stands q ps s))
 
 pub look_again-requires-clause-stands : goal.look_again-requires-clause-stands
-look_again-requires-clause-stands g c = (c.requires.stands.0, c.in_ok-run_on.ensures.stands c.requires.stands.0 c.requires.stands.1)
+look_again-requires-clause-stands g c = (c.requires.stands.0, c.requires.stands.1, c.in_ok-run_on.ensures.stands c.requires.stands.0 c.requires.stands.1 c.requires.stands.2)
 
 pub look_again-requires-clause-over : goal.look_again-requires-clause-over
 look_again-requires-clause-over g c = let r = rw c.in-Over.is at c.in_ok-run_on.ensures.ran in r.2

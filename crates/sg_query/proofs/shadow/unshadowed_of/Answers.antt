@@ -1,36 +1,46 @@
-use Rattle.std.proofs.Common.{◌≡◌, ◌+◌, [], ◌∷◌, ◌++◌, take, sym, ◌∙◌, ap, subst, inl, inr, refl}
-use Rattle.std.proofs.lemmas.List.{take_more, take_all, append-nil}
+use Rattle.std.proofs.Common.{◌≡◌, List, Bool, sym, ap, ◌∙◌, subst, length}
+use Rattle.std.specs.List.{Contains}
 use Rattle.sg_order.specs.Order.{precedes}
 use Rattle.sg_query.specs.declared.found.Found.{Found}
+use Rattle.sg_query.specs.Marks.{AreMarked, unmarked}
 use Rattle.sg_query.specs.Walk.{Gathers}
-use Rattle.sg_query.proofs.Gathering.{Gathers-append}
-use Rattle.sg_query.proofs.Shadowing.{IsShown, shown_once, shown_all}
+use Rattle.sg_query.proofs.Marking.{marked_length, marked_gathers}
+use Rattle.sg_query.proofs.Shadowing.{IsShown, shown_once, shown_all, unshadowed_moved}
 use Rattle.sg_query.proofs.shadow.unshadowed_of.Goals as goal
-use Rattle.sg_query.proofs.shadow.unshadowed_of.Goals.{then-not-is_shadowed+in_ok-copied+in_ok-push, else-not-is_shadowed}
 
-pub is_shadowed-requires : goal.is_shadowed-requires
-is_shadowed-requires g c = λ h k.
-    c.requires.starts h c.found-item.result k (c.loop-found.found-index, c.loop-found-test.true, sym c.found-item.is)
+pub marks_of-requires-clause-starts : goal.marks_of-requires-clause-starts
+marks_of-requires-clause-starts g c = λ f h a b.
+    let there : (x : Found g.row.I-Datum.Denot) → Contains c.as_slice.result.now x → Contains c.args.all.items x =
+    λ x k. (c.by_key-keyed.ensures.same x).0 (subst (λ (t : List (Found g.row.I-Datum.Denot)). Contains t x) c.as_slice.ensures.value k) in
+    c.requires.starts f h (there f a) (there h b)
 
-pub loop-found-preserved : goal.loop-found-preserved
-loop-found-preserved g c =
-    let longer : take (c.loop-found.found-index + 1) c.args.all.now ≡ take c.loop-found.found-index c.args.all.now ++ c.found-item.result ∷ [] =
-    take_more c.args.all.now c.loop-found.found-index c.found-item.result c.loop-found-test.true ∙ ap (λ (x : Found g.row.I-Datum.Denot). take c.loop-found.found-index c.args.all.now ++ x ∷ []) (sym c.found-item.is) in
-    let R : Found g.row.I-Datum.Denot → Found g.row.I-Datum.Denot → Type 0 = IsShown g.I.Instance.same_datum (precedes c.args.order.now) c.args.all.now in
-    elim c.if-not-is_shadowed.branch [
-      | then-not-is_shadowed+in_ok-copied+in_ok-push w ↦
-          rw (w.unshadowed-is, w.in_ok-push.ensures.items, w.in_ok-copied.ensures, longer)
-          (Gathers-append R (take c.loop-found.found-index c.args.all.now) (c.found-item.result ∷ []) c.loop-found.unshadowed.items (c.found-item.result ∷ []) c.loop-found.invariant (inl (c.found-item.result, [], (refl, c.is_shadowed.ensures.shown w.if-not-is_shadowed.true), refl, refl)))
-      | else-not-is_shadowed w ↦
-          let h = c.is_shadowed.ensures.shadowed w.if-not-is_shadowed.false in
-          rw (w.unshadowed-is, longer)
-          (subst (Gathers R (take c.loop-found.found-index c.args.all.now ++ c.found-item.result ∷ [])) (append-nil c.loop-found.unshadowed.items) (Gathers-append R (take c.loop-found.found-index c.args.all.now) (c.found-item.result ∷ []) c.loop-found.unshadowed.items [] c.loop-found.invariant (inr ((λ y r. r.1 h), refl))))
-    ]
+pub without_marked-requires : goal.without_marked-requires
+without_marked-requires g c =
+    let keyed = c.by_key-keyed.result.items in
+    let marks = c.in_ok-shadowed.shadowed.items in
+    let same = g.I.Instance.same_datum in
+    let order = precedes c.args.order.now in
+    let marked : AreMarked same order keyed keyed marks = subst (λ (t : List (Found g.row.I-Datum.Denot)). AreMarked same order t t marks) c.as_slice.ensures.value c.in_ok-shadowed.ensures in
+    ap length c.as_slice-2.ensures.value ∙ marked_length same order keyed keyed marks marked
 
-pub returns : goal.returns
-returns g c =
-    let whole : take c.loop-found.found-index c.args.all.now ≡ c.args.all.now = take_all c.loop-found.found-index c.args.all.now c.loop-found-test.false in
-    let k = rw whole at c.loop-found.invariant in (
-      shown_once g.I.Instance.same_datum (precedes c.args.order.now) c.args.all.now c.args.all.now c.loop-found.unshadowed.items k c.requires.once,
-      shown_all g.I.Instance.same_datum (precedes c.args.order.now) c.args.all.now c.loop-found.unshadowed.items k,
-    )
+pub returns-clause-once : goal.returns-clause-once
+returns-clause-once g c =
+    let keyed = c.by_key-keyed.result.items in
+    let marks = c.in_ok-shadowed.shadowed.items in
+    let same = g.I.Instance.same_datum in
+    let order = precedes c.args.order.now in
+    let marked : AreMarked same order keyed keyed marks = subst (λ (t : List (Found g.row.I-Datum.Denot)). AreMarked same order t t marks) c.as_slice.ensures.value c.in_ok-shadowed.ensures in
+    let left : c.in_ok-without_marked.field-0.items ≡ unmarked keyed marks = c.in_ok-without_marked.ensures ∙ ap (λ (t : List Bool). unmarked keyed t) c.as_slice-2.ensures.value in
+    let shown = subst (λ (t : List (Found g.row.I-Datum.Denot)). Gathers (IsShown same order keyed) keyed t) (sym left) (marked_gathers same order keyed keyed marks marked) in
+    shown_once same order keyed keyed c.in_ok-without_marked.field-0.items shown c.by_key-keyed.ensures.once
+
+pub returns-clause-unshadowed : goal.returns-clause-unshadowed
+returns-clause-unshadowed g c =
+    let keyed = c.by_key-keyed.result.items in
+    let marks = c.in_ok-shadowed.shadowed.items in
+    let same = g.I.Instance.same_datum in
+    let order = precedes c.args.order.now in
+    let marked : AreMarked same order keyed keyed marks = subst (λ (t : List (Found g.row.I-Datum.Denot)). AreMarked same order t t marks) c.as_slice.ensures.value c.in_ok-shadowed.ensures in
+    let left : c.in_ok-without_marked.field-0.items ≡ unmarked keyed marks = c.in_ok-without_marked.ensures ∙ ap (λ (t : List Bool). unmarked keyed t) c.as_slice-2.ensures.value in
+    let shown = subst (λ (t : List (Found g.row.I-Datum.Denot)). Gathers (IsShown same order keyed) keyed t) (sym left) (marked_gathers same order keyed keyed marks marked) in
+    unshadowed_moved same order c.args.all.items keyed c.in_ok-without_marked.field-0.items c.by_key-keyed.ensures.same (shown_all same order keyed c.in_ok-without_marked.field-0.items shown)

@@ -11,7 +11,7 @@ index_mut-requires g c =
 
 pub returns-in_ok-apply-in-Open-clause-team : goal.returns-in_ok-apply-in-Open-clause-team
 returns-in_ok-apply-in-Open-clause-team g c = λ start units t.
-    team_advance g.U.Unit.number g.U.Unit.fixed g.U.Unit.stands g.U.Unit.opening g.U.Unit.kinds g.U.Inst.Instance.wants g.U.Inst.Instance.same_datum start units c.args.replies.now.items c.args.core.now c.apply.new.self c.args.unit c.in_ok-apply-in-Open.field-0 t
+    team_advance g.U.Inst.Instance.wants g.U.Inst.Instance.same_datum g.U.Unit.opening g.U.Unit.kinds g.U.Unit.owes_edge g.U.Unit.owes_datum g.U.Unit.may_ask g.U.Unit.comes_to g.U.Unit.number g.U.Unit.fixed g.U.Unit.stands start units c.args.replies.now.items c.args.core.now c.apply.new.self c.args.unit c.in_ok-apply-in-Open.field-0 t
     (within g.U.Inst.Instance.wants g.U.Inst.Instance.same_datum c.args.core.now c.args.unit c.requires.core c.requires.runs) c.in_ok-apply-in-Open.ensures.ok
 
 pub returns-in_ok-apply-in-Open-clause-falls : goal.returns-in_ok-apply-in-Open-clause-falls
@@ -20,7 +20,7 @@ returns-in_ok-apply-in-Open-clause-falls g c = λ _.
 
 pub returns-in_ok-reply-in-Ready-clause-team : goal.returns-in_ok-reply-in-Ready-clause-team
 returns-in_ok-reply-in-Ready-clause-team g c = λ start units t.
-    team_take g.U.Unit.number g.U.Unit.fixed g.U.Unit.stands g.U.Unit.opening g.U.Unit.kinds g.U.Inst.Instance.wants g.U.Inst.Instance.same_datum start units c.args.replies.now.items c.args.core.now c.apply-in-Ready.new.self c.args.unit c.in_ok-reply-in-Ready.reply t
+    team_take g.U.Inst.Instance.wants g.U.Inst.Instance.same_datum g.U.Unit.opening g.U.Unit.kinds g.U.Unit.owes_edge g.U.Unit.owes_datum g.U.Unit.may_ask g.U.Unit.comes_to g.U.Unit.number g.U.Unit.fixed g.U.Unit.stands start units c.args.replies.now.items c.args.core.now c.apply-in-Ready.new.self c.args.unit c.in_ok-reply-in-Ready.reply t
     (within g.U.Inst.Instance.wants g.U.Inst.Instance.same_datum c.args.core.now c.args.unit c.requires.core c.requires.runs) c.in_ok-reply-in-Ready.ensures.ok
 
 pub returns-in_ok-reply-in-Ready-clause-falls : goal.returns-in_ok-reply-in-Ready-clause-falls

@@ -3,7 +3,7 @@ use Rattle.std.proofs.lemmas.List.{take_more}
 use Rattle.sg_core.specs.Core.{run}
 use Rattle.sg_serial.specs.Serial.{AreChosen}
 use Rattle.sg_serial.proofs.Serves.{adds_one, chosen_more, served_chosen, served_more}
-use Rattle.sg_serial.proofs.Serving.{team_begins, team_stood}
+use Rattle.sg_serial.proofs.Serving.{team_begins, team_stood, team_honest}
 use Rattle.sg_serial.proofs.Settling.{from_there, over, none_left, some_left}
 use Rattle.sg_serial.proofs.serial.run_serial.Goals as goal
 
@@ -11,7 +11,7 @@ pub loop-unit-init : goal.loop-unit-init
 loop-unit-init g c = (
   c.log-log.ensures.core,
   (refl, refl),
-  team_begins g.U.Unit.number g.U.Unit.fixed g.U.Unit.stands g.U.Unit.opening g.U.Unit.kinds g.U.Inst.Instance.wants g.U.Inst.Instance.same_datum c.args.units.items c.in_ok-replies.replies.items c.args.core c.requires.new c.len.result (c.len.ensures ∙ c.args.units.ok.0) c.in_ok-replies.ensures c.requires.opening,
+  team_begins g.U.Inst.Instance.wants g.U.Inst.Instance.same_datum g.U.Unit.opening g.U.Unit.kinds g.U.Unit.owes_edge g.U.Unit.owes_datum g.U.Unit.may_ask g.U.Unit.comes_to g.U.Unit.number g.U.Unit.fixed g.U.Unit.stands c.args.units.items c.in_ok-replies.replies.items c.args.core c.requires.new c.len.result (c.len.ensures ∙ c.args.units.ok.0) c.in_ok-replies.ensures c.requires.opening,
   c.requires.opening,
 )
 
@@ -71,7 +71,8 @@ returns-clause-ran g c =
       kinds = goes.1;
       core = (c.in_ok-unit.ensures.core).0;
       over = over g.U.Inst.Instance.wants g.U.Inst.Instance.same_datum c.settle.new.core (c.in_ok-unit.ensures.core).0 (none_left _ _ c.in_ok-unit.field-0 c.in_ok-unit.ensures.least c.in_default.not-Some);
-      each = team_stood g.U.Unit.number g.U.Unit.fixed g.U.Unit.stands g.U.Unit.opening g.U.Unit.kinds g.U.Inst.Instance.wants g.U.Inst.Instance.same_datum c.args.units.items c.loop-replies.units.items c.settle.new.replies.items c.settle.new.core team;
+      each = team_stood g.U.Inst.Instance.wants g.U.Inst.Instance.same_datum g.U.Unit.opening g.U.Unit.kinds g.U.Unit.owes_edge g.U.Unit.owes_datum g.U.Unit.may_ask g.U.Unit.comes_to g.U.Unit.number g.U.Unit.fixed g.U.Unit.stands c.args.units.items c.loop-replies.units.items c.settle.new.replies.items c.settle.new.core team;
+      honest = team_honest g.U.Inst.Instance.wants g.U.Inst.Instance.same_datum g.U.Unit.opening g.U.Unit.kinds g.U.Unit.owes_edge g.U.Unit.owes_datum g.U.Unit.may_ask g.U.Unit.comes_to g.U.Unit.number g.U.Unit.fixed g.U.Unit.stands c.args.units.items c.loop-replies.units.items c.settle.new.replies.items c.settle.new.core team;
     }
 
 pub returns-clause-served : goal.returns-clause-served

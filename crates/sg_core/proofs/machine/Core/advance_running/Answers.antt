@@ -2,7 +2,7 @@ use Rattle.std.proofs.Common.{◌≡◌, ℕ, ◌++◌, ◌∷◌, [], List, len
 use Rattle.std.proofs.lemmas.List.{length-replicate}
 use Rattle.sg_engine.specs.declared.progress.Progress.{Progress}
 use Rattle.sg_engine.specs.Search.{SearchOf}
-use Rattle.sg_state.specs.Opening.{opened_of, opening_of}
+use Rattle.sg_state.specs.Opening.{opened_of}
 use Rattle.sg_unit.specs.declared.entry.Entry.{Entry}
 use Rattle.sg_unit.specs.declared.op.Op.TheVariants.{Advance}
 use Rattle.sg_unit.specs.declared.reply.Reply.{Reply}
@@ -18,27 +18,34 @@ use Rattle.sg_core.proofs.Moving.{core_of, core_log, same_core, kept_log, added,
 use Rattle.sg_core.proofs.Progressing.{can_search, runs_here, units_are, searches_now, moved_step, moved_kept, ready_step, has_found, ready_kept, these_some, these_rise, these_held, these_step, these_kept, given_up_all}
 use Rattle.sg_core.proofs.machine.Core.advance_running.Goals as goal
 
+pub search_on-requires-clause-within : goal.search_on-requires-clause-within
+search_on-requires-clause-within g c =
+    let i = c.self.inside in
+    let z = setting_of g.I.Instance.wants g.I.Instance.same_datum (opened_of i.opening) i.kinds in
+    let may = rw (← c.self.view_is) at c.requires.may in
+    ask_within z i.held i.waits i.asks.items i.ends.items i.shown i.log.items c.self.invariant c.args.unit may.0
+
 pub search_on-requires-clause-can : goal.search_on-requires-clause-can
 search_on-requires-clause-can g c =
     let i = c.self.inside in
     let wants = g.I.Instance.wants in
     let same = g.I.Instance.same_datum in
-    let z = setting_of wants same (opened_of (opening_of i.opening)) i.kinds in
+    let z = setting_of wants same (opened_of i.opening) i.kinds in
     let may = rw (← c.self.view_is) at c.requires.may in
     can_search z i.held i.waits i.asks.items i.ends.items i.shown i.log.items c.self.invariant c.args.unit may
 
 pub returns-in_err-search_on-clause-core : goal.returns-in_err-search_on-clause-core
 returns-in_err-search_on-clause-core g c =
     let i = c.self.inside in
-    core_log g.I.Instance.wants g.I.Instance.same_datum (opened_of (opening_of i.opening)) i.kinds c.reserve.new.self.items i.log.items c.reserve.ensures.items
-    (core_of g.I.Instance.wants g.I.Instance.same_datum (opened_of (opening_of i.opening)) i.kinds i.held i.waits i.asks.items i.ends.items i.shown i.log.items c.self.invariant)
+    core_log g.I.Instance.wants g.I.Instance.same_datum (opened_of i.opening) i.kinds c.reserve.new.self.items i.log.items c.reserve.ensures.items
+    (core_of g.I.Instance.wants g.I.Instance.same_datum (opened_of i.opening) i.kinds i.held i.waits i.asks.items i.ends.items i.shown i.log.items c.self.invariant)
 
 pub invariant_of-self-in-Moved : goal.invariant_of-self-in-Moved
 invariant_of-self-in-Moved g c =
     let i = c.self.inside in
     let wants = g.I.Instance.wants in
     let same = g.I.Instance.same_datum in
-    let z = setting_of wants same (opened_of (opening_of i.opening)) i.kinds in
+    let z = setting_of wants same (opened_of i.opening) i.kinds in
     let may = rw (← c.self.view_is) at c.requires.may in
     let idle = rw (← c.self.view_is) at c.requires.runs in
     let bb = c.search_on.new.asks.items in
@@ -53,7 +60,7 @@ keep_answer-requires-clause-found g c =
     let i = c.self.inside in
     let wants = g.I.Instance.wants in
     let same = g.I.Instance.same_datum in
-    let z = setting_of wants same (opened_of (opening_of i.opening)) i.kinds in
+    let z = setting_of wants same (opened_of i.opening) i.kinds in
     let may = rw (← c.self.view_is) at c.requires.may in
     let idle = rw (← c.self.view_is) at c.requires.runs in
     let bb = c.search_on.new.asks.items in
@@ -65,7 +72,7 @@ invariant_of-self-in-Ready g c =
     let i = c.self.inside in
     let wants = g.I.Instance.wants in
     let same = g.I.Instance.same_datum in
-    let z = setting_of wants same (opened_of (opening_of i.opening)) i.kinds in
+    let z = setting_of wants same (opened_of i.opening) i.kinds in
     let may = rw (← c.self.view_is) at c.requires.may in
     let idle = rw (← c.self.view_is) at c.requires.runs in
     let bb = c.search_on.new.asks.items in
@@ -81,7 +88,7 @@ needs_of-needs-requires-clause-within g c =
     let i = c.self.inside in
     let wants = g.I.Instance.wants in
     let same = g.I.Instance.same_datum in
-    let z = setting_of wants same (opened_of (opening_of i.opening)) i.kinds in
+    let z = setting_of wants same (opened_of i.opening) i.kinds in
     let may = rw (← c.self.view_is) at c.requires.may in
     let bb = c.search_on.new.asks.items in
     let t = subst (λ (p : Progress). SearchesOn wants same i.kinds i.held i.asks.items bb c.args.unit p) c.in-Blocked.is c.in_ok-search_on.ensures.ok in
@@ -93,7 +100,7 @@ needs_of-needs-requires-clause-searches g c =
     let i = c.self.inside in
     let wants = g.I.Instance.wants in
     let same = g.I.Instance.same_datum in
-    let z = setting_of wants same (opened_of (opening_of i.opening)) i.kinds in
+    let z = setting_of wants same (opened_of i.opening) i.kinds in
     let may = rw (← c.self.view_is) at c.requires.may in
     let bb = c.search_on.new.asks.items in
     let t = subst (λ (p : Progress). SearchesOn wants same i.kinds i.held i.asks.items bb c.args.unit p) c.in-Blocked.is c.in_ok-search_on.ensures.ok in
@@ -105,7 +112,7 @@ block-requires-clause-runs g c =
     let i = c.self.inside in
     let wants = g.I.Instance.wants in
     let same = g.I.Instance.same_datum in
-    let z = setting_of wants same (opened_of (opening_of i.opening)) i.kinds in
+    let z = setting_of wants same (opened_of i.opening) i.kinds in
     let may = rw (← c.self.view_is) at c.requires.may in
     let idle = rw (← c.self.view_is) at c.requires.runs in
     runs_here z i.held i.waits i.asks.items i.ends.items i.shown i.log.items c.self.invariant c.args.unit may idle
@@ -115,7 +122,7 @@ block-requires-clause-some g c =
     let i = c.self.inside in
     let wants = g.I.Instance.wants in
     let same = g.I.Instance.same_datum in
-    let z = setting_of wants same (opened_of (opening_of i.opening)) i.kinds in
+    let z = setting_of wants same (opened_of i.opening) i.kinds in
     let may = rw (← c.self.view_is) at c.requires.may in
     let idle = rw (← c.self.view_is) at c.requires.runs in
     let bb = c.search_on.new.asks.items in
@@ -129,7 +136,7 @@ block-requires-clause-rising g c =
     let i = c.self.inside in
     let wants = g.I.Instance.wants in
     let same = g.I.Instance.same_datum in
-    let z = setting_of wants same (opened_of (opening_of i.opening)) i.kinds in
+    let z = setting_of wants same (opened_of i.opening) i.kinds in
     let may = rw (← c.self.view_is) at c.requires.may in
     let idle = rw (← c.self.view_is) at c.requires.runs in
     let bb = c.search_on.new.asks.items in
@@ -143,16 +150,16 @@ block-requires-clause-units g c =
     let i = c.self.inside in
     let wants = g.I.Instance.wants in
     let same = g.I.Instance.same_datum in
-    let z = setting_of wants same (opened_of (opening_of i.opening)) i.kinds in
+    let z = setting_of wants same (opened_of i.opening) i.kinds in
     let may = rw (← c.self.view_is) at c.requires.may in
-    omega (arith, units_are z i.held i.waits i.asks.items i.ends.items i.shown i.log.items c.self.invariant c.args.unit may, length-replicate {A = ℕ} i.opening.units 0)
+    omega (arith, units_are z i.held i.waits i.asks.items i.ends.items i.shown i.log.items c.self.invariant c.args.unit may, length-replicate {A = ℕ} i.opening.units 0, c.units-units.ensures)
 
 pub block-requires-clause-held : goal.block-requires-clause-held
 block-requires-clause-held g c =
     let i = c.self.inside in
     let wants = g.I.Instance.wants in
     let same = g.I.Instance.same_datum in
-    let z = setting_of wants same (opened_of (opening_of i.opening)) i.kinds in
+    let z = setting_of wants same (opened_of i.opening) i.kinds in
     let may = rw (← c.self.view_is) at c.requires.may in
     let idle = rw (← c.self.view_is) at c.requires.runs in
     let bb = c.search_on.new.asks.items in
@@ -166,7 +173,7 @@ invariant_of-self-in_err-stuck-in-Blocked g c =
     let i = c.self.inside in
     let wants = g.I.Instance.wants in
     let same = g.I.Instance.same_datum in
-    let z = setting_of wants same (opened_of (opening_of i.opening)) i.kinds in
+    let z = setting_of wants same (opened_of i.opening) i.kinds in
     let may = rw (← c.self.view_is) at c.requires.may in
     let idle = rw (← c.self.view_is) at c.requires.runs in
     let bb = c.search_on.new.asks.items in
@@ -184,7 +191,7 @@ invariant_of-self-in-Blocked g c =
     let i = c.self.inside in
     let wants = g.I.Instance.wants in
     let same = g.I.Instance.same_datum in
-    let z = setting_of wants same (opened_of (opening_of i.opening)) i.kinds in
+    let z = setting_of wants same (opened_of i.opening) i.kinds in
     let may = rw (← c.self.view_is) at c.requires.may in
     let idle = rw (← c.self.view_is) at c.requires.runs in
     let bb = c.search_on.new.asks.items in
@@ -206,7 +213,7 @@ returns-in-Moved-clause-ok g c =
     let i = c.self.inside in
     let wants = g.I.Instance.wants in
     let same = g.I.Instance.same_datum in
-    let z = setting_of wants same (opened_of (opening_of i.opening)) i.kinds in
+    let z = setting_of wants same (opened_of i.opening) i.kinds in
     let may = rw (← c.self.view_is) at c.requires.may in
     let idle = rw (← c.self.view_is) at c.requires.runs in
     let bb = c.search_on.new.asks.items in
@@ -214,7 +221,7 @@ returns-in-Moved-clause-ok g c =
     let e : Entry g.row.I.Denot g.row.R.Denot g.row.I-Datum.Denot g.row.I-Pred.Denot = entry c.args.unit Advance Moved in
     let now = added i.log.items c.reserve.new.self.items c.push_reserved.new.self.items e c.reserve.ensures.items c.push_reserved.ensures.items in
     rw (← c.self.view_is) (
-      same_core (opened_of (opening_of i.opening)) i.kinds c.push_reserved.new.self.items (i.log.items ++ e ∷ []) now,
+      same_core (opened_of i.opening) i.kinds c.push_reserved.new.self.items (i.log.items ++ e ∷ []) now,
       moved_step z i.held i.waits i.asks.items i.ends.items i.shown i.log.items c.self.invariant c.args.unit may idle bb t,
     )
 
@@ -227,7 +234,7 @@ returns-in-Ready-clause-ok g c =
     let i = c.self.inside in
     let wants = g.I.Instance.wants in
     let same = g.I.Instance.same_datum in
-    let z = setting_of wants same (opened_of (opening_of i.opening)) i.kinds in
+    let z = setting_of wants same (opened_of i.opening) i.kinds in
     let may = rw (← c.self.view_is) at c.requires.may in
     let idle = rw (← c.self.view_is) at c.requires.runs in
     let bb = c.search_on.new.asks.items in
@@ -235,7 +242,7 @@ returns-in-Ready-clause-ok g c =
     let e : Entry g.row.I.Denot g.row.R.Denot g.row.I-Datum.Denot g.row.I-Pred.Denot = entry c.args.unit Advance Ready in
     let now = added i.log.items c.reserve.new.self.items c.push_reserved-in-Ready.new.self.items e c.reserve.ensures.items c.push_reserved-in-Ready.ensures.items in
     rw (← c.self.view_is) (
-      same_core (opened_of (opening_of i.opening)) i.kinds c.push_reserved-in-Ready.new.self.items (i.log.items ++ e ∷ []) now,
+      same_core (opened_of i.opening) i.kinds c.push_reserved-in-Ready.new.self.items (i.log.items ++ e ∷ []) now,
       ready_step z i.held i.waits i.asks.items i.ends.items i.shown i.log.items c.self.invariant c.args.unit may idle bb t,
     )
 
@@ -248,7 +255,7 @@ returns-in_ok-stuck-in-Blocked-clause-ok g c =
     let i = c.self.inside in
     let wants = g.I.Instance.wants in
     let same = g.I.Instance.same_datum in
-    let z = setting_of wants same (opened_of (opening_of i.opening)) i.kinds in
+    let z = setting_of wants same (opened_of i.opening) i.kinds in
     let may = rw (← c.self.view_is) at c.requires.may in
     let idle = rw (← c.self.view_is) at c.requires.runs in
     let bb = c.search_on.new.asks.items in
@@ -262,7 +269,7 @@ returns-in_ok-stuck-in-Blocked-clause-ok g c =
     let now = added i.log.items c.reserve.new.self.items c.push_reserved-in-Blocked.new.self.items e c.reserve.ensures.items pushed in
     let said = c.in_ok-stuck-in-Blocked.ensures in
     rw (c.reply_of-in-Blocked.ensures, ← c.self.view_is) (
-      same_core (opened_of (opening_of i.opening)) i.kinds c.push_reserved-in-Blocked.new.self.items (i.log.items ++ e ∷ []) now,
+      same_core (opened_of i.opening) i.kinds c.push_reserved-in-Blocked.new.self.items (i.log.items ++ e ∷ []) now,
       these_step z i.held i.waits i.asks.items i.ends.items i.shown i.log.items c.self.invariant c.args.unit may idle bb t c.needs_of-needs.result.now all c.in_ok-stuck-in-Blocked.stuck said.stuck,
     )
 

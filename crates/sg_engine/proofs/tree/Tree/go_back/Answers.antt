@@ -9,7 +9,7 @@ returns g c = λ t m back.
     let k = c.args.mark.now in
     record {
       start = l.start;
-      nodes = c.truncate.ensures ∙ front_cut t.nodes.items u.nodes.items k.nodes m.nodes l.nodes;
+      nodes = c.truncate.ensures.items ∙ front_cut t.nodes.items u.nodes.items k.nodes m.nodes l.nodes;
       blocked = c.truncate-2.ensures.items ∙ front_cut t.blocked.items u.blocked.items k.blocked m.blocked l.blocked;
       queue = c.truncate-3.ensures.items ∙ front_cut t.queue.items u.queue.items k.queue m.queue l.queue;
       next = m.next;

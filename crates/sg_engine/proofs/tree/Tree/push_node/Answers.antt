@@ -1,4 +1,4 @@
-use Rattle.sg_engine.specs.Nodes.{rest_at}
+use Rattle.sg_engine.specs.Nodes.{RestOf}
 use Rattle.sg_engine.proofs.Growing.{pushed_going, pushed_ending}
 use Rattle.sg_engine.proofs.Resting.{there_is}
 use Rattle.sg_engine.proofs.tree.Tree.push_node.Goals as goal
@@ -7,10 +7,10 @@ use Rattle.sg_engine.proofs.tree.Tree.push_node.Goals.{then-goes_on, else-goes_o
 pub returns-clause-tree : goal.returns-clause-tree
 returns-clause-tree g c = λ e tree.
     let t = c.args.self.now in
-    let rest = rest_at t.nodes.rests c.args.rest in
+    let rest : RestOf = record { words = t.nodes.words; set = c.args.set } in
     let over = there_is t.nodes.items c.args.parent c.requires.there in
-    let offers = rw c.rest-words.ensures at c.in_ok-push_offers.ensures.offers in
-    let goes = rw c.rest-words.ensures at c.goes_on.ensures in
+    let offers = rw c.words-words.ensures at c.in_ok-push_offers.ensures.offers in
+    let goes = rw c.words-words.ensures at c.goes_on.ensures in
     elim c.if-goes_on.branch [
       | then-goes_on w ↦
           rw (c.in_ok-push.ensures.ok, w.self-is)

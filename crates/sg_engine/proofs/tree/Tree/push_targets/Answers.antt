@@ -34,12 +34,9 @@ push_node-requires-clause-there g c =
 pub push_node-requires-clause-few : goal.push_node-requires-clause-few
 push_node-requires-clause-few g c = (c.loop-t.invariant.0 c.requires.tree.0 c.requires.tree.1).0.0.few
 
-pub push_node-requires-clause-rest : goal.push_node-requires-clause-rest
-push_node-requires-clause-rest g c = rw c.loop-t.invariant.5 c.requires.rest
-
 pub push_node-requires-clause-after : goal.push_node-requires-clause-after
 push_node-requires-clause-after g c =
-    after_kept c.args.self.now.nodes c.loop-t.self.nodes c.args.place c.args.l c.args.rest c.loop-t.invariant.4.nodes c.loop-t.invariant.5 c.requires.there c.requires.after
+    after_kept c.args.self.now.nodes c.loop-t.self.nodes c.args.place c.args.l c.args.set c.loop-t.invariant.4.nodes c.loop-t.invariant.5 c.requires.there c.requires.after
 
 pub loop-t-preserved : goal.loop-t-preserved
 loop-t-preserved g c =
@@ -55,7 +52,7 @@ loop-t-preserved g c =
         (rw w.self-is (w.push_node.ensures.explored ∙ c.loop-t.invariant.2)),
         (rw w.self-is (w.push_node.ensures.blocked ∙ c.loop-t.invariant.3)),
         (rw w.self-is (lists_chain c.args.self.now c.loop-t.self w.push_node.new.self c.loop-t.invariant.4 w.push_node.ensures.lists)),
-        (rw w.self-is (w.push_node.ensures.rests ∙ c.loop-t.invariant.5)),
+        (rw w.self-is (w.push_node.ensures.words ∙ c.loop-t.invariant.5)),
       )
       | else-is_fresh_at w ↦ (
         (λ e tree.
@@ -76,6 +73,7 @@ returns g c = record {
   next = c.loop-t.invariant.1;
   explored = c.loop-t.invariant.2;
   blocked = c.loop-t.invariant.3;
+  words = c.loop-t.invariant.5;
   lists = c.loop-t.invariant.4;
   tree = λ e tree.
       let whole : take c.loop-t.t-index c.args.row.now ≡ c.args.row.now = take_all c.loop-t.t-index c.args.row.now c.loop-t-test.false in

@@ -13,7 +13,7 @@ returns-then-number c =
     let labels : c.index-p-i.result.label ≢ c.index-q-i.result.label =
     λ e. c.if-number.true (c.number.ensures.value ∙ e ∙ sym c.number-in-loop-i.ensures.value) in
     let apart : c.index-p-i.result ≡ c.index-q-i.result → ⊥ = λ e. labels (ap (λ (s : Step). s.label) e) in
-    rw c.before-then-number.ensures (
+    rw c.before-then-number.ensures.answer (
       (λ t. c.loop-i.invariant.1 (moved.1 (apart-Before (precedes c.args.self.now) c.index-p-i.result c.index-q-i.result (drop (c.loop-i.i + 1) c.args.p.now) (drop (c.loop-i.i + 1) c.args.q.now) labels t))),
       (λ b. (Before-apart (precedes c.args.self.now) c.index-p-i.result c.index-q-i.result (drop (c.loop-i.i + 1) c.args.p.now) (drop (c.loop-i.i + 1) c.args.q.now) apart (moved.0 (c.loop-i.invariant.0 b))).1),
     )
@@ -51,7 +51,7 @@ returns-then-shared-p c =
     let dq = drop_all c.min-shared.result c.args.q.now short in
     let moved = Before-moved (precedes c.args.self.now) (drop c.min-shared.result c.args.p.now) (drop c.min-shared.result c.args.q.now) (c.index-p-shared.result ∷ drop (c.min-shared.result + 1) c.args.p.now) [] dp dq in
     let left = Before-left (precedes c.args.self.now) c.index-p-shared.result (drop (c.min-shared.result + 1) c.args.p.now) in
-    rw (c.before-then-shared-p.ensures, ← c.index-p-shared.is) (
+    rw (c.before-then-shared-p.ensures.answer, ← c.index-p-shared.is) (
       (λ t. inv.1 (moved.1 (left.0 t))),
       (λ b. left.1 (moved.0 (inv.0 b))),
     )
@@ -64,7 +64,7 @@ returns-then-shared-q c =
     let dp = drop_all c.min-shared.result c.args.p.now c.if-shared-p.false in
     let moved = Before-moved (precedes c.args.self.now) (drop c.min-shared.result c.args.p.now) (drop c.min-shared.result c.args.q.now) [] (c.index-q-shared.result ∷ drop (c.min-shared.result + 1) c.args.q.now) dp dq in
     let right = Before-right (precedes c.args.self.now) c.index-q-shared.result (drop (c.min-shared.result + 1) c.args.q.now) in
-    rw (c.before-then-shared-q.ensures, ← c.index-q-shared.is) (
+    rw (c.before-then-shared-q.ensures.answer, ← c.index-q-shared.is) (
       (λ t. inv.1 (moved.1 (right.0 t))),
       (λ b. right.1 (moved.0 (inv.0 b))),
     )

@@ -1,4 +1,5 @@
 use Rattle.std.proofs.Common.{sym, ◌∙◌}
+use Rattle.sg_expr.specs.Tree.{expr_of}
 use Rattle.sg_query.specs.Walk.{into_scope}
 use Rattle.sg_query.proofs.Extending.{scope_fresh, scope_stale}
 use Rattle.sg_query.proofs.Gathering.{Visits-none, Visits-same, rest_more}
@@ -10,7 +11,7 @@ returns-then-not-is_fresh g c =
 
 pub visit-requires : goal.visit-requires
 visit-requires g c =
-    rest_more c.args.self.now.expr.now c.args.rest.now c.in_ok-rest.rest c.args.steps.now c.args.step c.requires c.in_ok-rest.ensures
+    rest_more (expr_of c.args.self.now.expr.now) (expr_of c.args.rest.now) (expr_of c.in_ok-rest.rest) c.args.steps.now c.args.step c.requires c.in_ok-rest.ensures
 
 pub returns : goal.returns
 returns g c =

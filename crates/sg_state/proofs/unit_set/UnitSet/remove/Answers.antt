@@ -2,7 +2,7 @@ use Rattle.std.specs.Cmp.{nat_cmp_total}
 use Rattle.std.specs.Ordering.{nat_cmp}
 use Rattle.sg_base.proofs.Scopes.{equal_nat}
 use Rattle.sg_base.proofs.Searching.{gap_found, gap_without}
-use Rattle.sg_state.proofs.Removing.{without_from, without_to, without_rises}
+use Rattle.sg_base.proofs.Removing.{without_from, without_to, without_rises}
 use Rattle.sg_state.proofs.unit_set.UnitSet.remove.Goals as goal
 
 pub invariant_of-self : goal.invariant_of-self

@@ -1,7 +1,0 @@
-pub mod Greatest
-pub mod Growing
-pub mod Honest
-pub mod Moments
-pub mod Ranks
-pub mod Running
-pub mod Sets

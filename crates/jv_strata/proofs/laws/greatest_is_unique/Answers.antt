@@ -1,5 +1,0 @@
-use Rattle.jv_strata.proofs.Greatest.{greatest_is_one}
-use Rattle.jv_strata.proofs.laws.greatest_is_unique.Goals as goal
-
-pub returns : goal.returns
-returns g c = greatest_is_one _ _

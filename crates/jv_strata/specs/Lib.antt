@@ -1,6 +1,0 @@
-pub mod Law
-pub mod List
-pub mod Program
-pub mod Run
-pub mod Strata
-pub mod Unit

@@ -1,0 +1,2 @@
+pub mod BoardNumbers
+pub mod Weighing

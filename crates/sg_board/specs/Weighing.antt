@@ -1,0 +1,84 @@
+-- The rule of the lock: each task that was brought is on the board or in progress at one worker, as often as it was brought.
+use Rattle.std.specs.Prelude.{◌≡◌, ℕ, ◌+◌, ◌≤◌, List, [], ◌∷◌, length, Option, Some, None}
+use mathlib.Core.Option.{some}
+use lib.ListN.{get_elem?}
+use Rattle.sg_board.specs.declared.worker_view.WorkerView.{WorkerView}
+
+-- the weights of the numbers, added up
+abbrev pub weigh : (ℕ → ℕ) → List ℕ → ℕ
+weigh h [] = 0
+weigh h (x ∷ xs) = h x + weigh h xs
+
+-- what the workers have of this, added up
+abbrev pub total : (WorkerView → ℕ) → List WorkerView → ℕ
+total f [] = 0
+total f (v ∷ vs) = f v + total f vs
+
+-- a worker with so many parts, these tasks in progress, these on the board that it has, so many boards, and these tasks brought
+abbrev pub worker_view : ℕ → List ℕ → List ℕ → ℕ → List ℕ → WorkerView
+worker_view p l o k b = record { parts = p; held = l; out = o; boards = k; brought = b }
+
+-- more than there are workers
+abbrev pub all_parts : ℕ
+all_parts = 4294967297
+
+-- the weights of the tasks on these boards, added up
+abbrev pub weigh_all : {B : Type 0} → (B → List ℕ) → (ℕ → ℕ) → List B → ℕ
+weigh_all numbers h [] = 0
+weigh_all numbers h (b ∷ bs) = weigh h (numbers b) + weigh_all numbers h bs
+
+-- the weight of the tasks that a worker has, with those of the board while it has that
+abbrev pub in_progress : (ℕ → ℕ) → WorkerView → ℕ
+in_progress h v = weigh h v.held + weigh h v.out
+
+-- the weight of the tasks that a worker brought
+abbrev pub brings : (ℕ → ℕ) → WorkerView → ℕ
+brings h v = weigh h v.brought
+
+-- a pass with no part has nothing
+pub record IsIdle (v : WorkerView) : Type 0 where
+  pub boards : v.boards ≡ 0
+  pub held : v.held ≡ []
+  pub out : v.out ≡ []
+  pub brought : v.brought ≡ []
+
+-- all parts are given out, there is at most one board, and each task that was brought is on it or at a worker, as often as it was brought
+pub record Kept {B : Type 0} (numbers : B → List ℕ) (items : List B) (views : List WorkerView) : Type 0 where
+  pub parts : total (λ v. v.parts) views ≡ all_parts
+  pub single : length items + total (λ v. v.boards) views ≤ 1
+  pub whole : (h : ℕ → ℕ) → total (in_progress h) views + weigh_all numbers h items ≡ total (brings h) views
+  pub idle : (j : ℕ) (v : WorkerView) → get_elem? views j ≡ some v → v.parts ≡ 0 → IsIdle v
+
+-- the board with these tasks was taken
+abbrev pub Took : WorkerView → List ℕ → WorkerView → Type 0
+Took v board w = w ≡ worker_view v.parts v.held board 1 v.brought
+
+-- the board was given back with these tasks
+pub record Gave (v : WorkerView) (board : List ℕ) (w : WorkerView) : Type 0 where
+  pub left : List ℕ
+  pub same : w ≡ worker_view v.parts left [] 0 v.brought
+  pub whole : (h : ℕ → ℕ) → weigh h left + weigh h board ≡ weigh h v.held + weigh h v.out
+
+-- a worker between two tasks
+pub record IsFree (v : WorkerView) : Type 0 where
+  pub parts : 1 ≤ v.parts
+  pub boards : v.boards ≡ 0
+  pub out : v.out ≡ []
+  pub held : (h : ℕ → ℕ) → weigh h v.held ≡ 0
+
+-- a worker with one part that brought nothing
+abbrev pub IsHelper : WorkerView → Type 0
+IsHelper v = (v.parts ≡ 1) × (v.brought ≡ [])
+
+-- the same worker, without the board, with tasks in progress of this weight
+pub record HoldsTasks (v w : WorkerView) (weight : (ℕ → ℕ) → ℕ) : Type 0 where
+  pub parts : w.parts ≡ v.parts
+  pub brought : w.brought ≡ v.brought
+  pub boards : w.boards ≡ 0
+  pub out : w.out ≡ []
+  pub held : (h : ℕ → ℕ) → weigh h w.held ≡ weight h
+
+-- the weight of a task, where there is one
+abbrev pub weigh_option : {T : Type 0} → (T → ℕ) → (ℕ → ℕ) → Option T → ℕ
+weigh_option number h None = 0
+weigh_option number h (Some t) = h (number t)

@@ -1,0 +1,10 @@
+pub mod Examples
+pub mod Followers
+pub mod Headers
+pub mod Importing
+pub mod Outcomes
+pub mod Readers
+pub mod Reading
+pub mod Rows
+pub mod Sticking
+pub mod Small

@@ -1,0 +1,10 @@
+pub mod Example
+pub mod Follower
+pub mod Honest
+pub mod Imports
+pub mod Law
+pub mod Orderly
+pub mod Outcome
+pub mod Run
+pub mod Setting
+pub mod Small

@@ -1,0 +1,16 @@
+//! One unit, driven at any desk.
+//!
+//! A `Running` is a unit at its seat, which one worker has in hand at a time. Each `step` is one operation of it at the
+//! desk, and adds one entry to those of its seat. Whatever happens between two steps, the unit stands for its entries and
+//! is honest by them.
+#![tactic(auto)]
+
+mod after;
+mod doing;
+mod driving;
+mod running;
+mod stepped;
+
+pub use after::After;
+pub use doing::Doing;
+pub use running::{Running, step};

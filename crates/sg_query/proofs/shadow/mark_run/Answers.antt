@@ -1,0 +1,36 @@
+use Rattle.std.proofs.Common.{◌≡◌, ◌+◌, [], ◌∷◌, ◌++◌, take, List, Bool, sym, ◌∙◌, ap, subst, append_assoc}
+use Rattle.std.proofs.lemmas.List.{append-nil, take_more, take_all}
+use Rattle.sg_order.specs.Order.{precedes}
+use Rattle.sg_query.specs.declared.found.Found.{Found}
+use Rattle.sg_query.specs.Marks.{AreMarked}
+use Rattle.sg_query.proofs.Marking.{mark_of, marked_append}
+use Rattle.sg_query.proofs.shadow.mark_run.Goals as goal
+
+pub loop-found-init : goal.loop-found-init
+loop-found-init g c = ([], sym (append-nil _), tt)
+
+pub is_shadowed-shadowed-requires : goal.is_shadowed-shadowed-requires
+is_shadowed-shadowed-requires g c = λ h k.
+    c.requires h c.found-item.result k (c.loop-found.found-index, c.loop-found-test.true, sym c.found-item.is)
+
+pub loop-found-preserved : goal.loop-found-preserved
+loop-found-preserved g c =
+    let same = g.I.Instance.same_datum in
+    let order = precedes c.args.order.now in
+    let run = c.args.run.now in
+    let n = c.loop-found.found-index in
+    let mark = c.is_shadowed-shadowed.result in
+    let so_far = c.loop-found.invariant in
+    let longer : take (n + 1) run ≡ take n run ++ c.found-item.result ∷ [] =
+    take_more run n c.found-item.result c.loop-found-test.true ∙ ap (λ (x : Found g.row.I-Datum.Denot). take n run ++ x ∷ []) (sym c.found-item.is) in
+    let before : List Bool = c.loop-found.marks.items in
+    let first : List Bool = c.args.marks.now.items in
+    let pushed : c.push.new.self.items ≡ before ++ mark ∷ [] = c.in_ok-push.ensures.items in
+    let grown : before ++ mark ∷ [] ≡ (first ++ so_far.0) ++ mark ∷ [] = ap (λ (t : List Bool). t ++ mark ∷ []) so_far.1 in
+    let added : c.push.new.self.items ≡ first ++ (so_far.0 ++ mark ∷ []) = pushed ∙ (grown ∙ append_assoc first so_far.0 (mark ∷ [])) in (
+      so_far.0 ++ mark ∷ [],
+      added,
+      subst (λ (fs : List (Found g.row.I-Datum.Denot)). AreMarked same order run fs (so_far.0 ++ mark ∷ [])) (sym longer)
+          (marked_append same order run (take n run) (c.found-item.result ∷ []) so_far.0 (mark ∷ []) so_far.2
+          (mark_of mark c.is_shadowed-shadowed.ensures.shadowed c.is_shadowed-shadowed.ensures.shown, tt)),
+    )

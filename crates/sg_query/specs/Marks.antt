@@ -1,0 +1,19 @@
+-- Which paths of a list others shadow, for the code that leaves these out and for it alone.
+use Rattle.std.specs.Prelude.{List, [], ◌∷◌, Bool, if◌then◌else◌, MatchBool}
+use Rattle.sg_base.specs.declared.mark.Mark.{Mark}
+use Rattle.sg_query.specs.declared.found.Found.{Found}
+use Rattle.sg_query.specs.Shadow.{IsShadowed}
+
+-- each mark says whether a path of the first list shadows the path at its place in the second
+abbrev pub AreMarked : {D : Type 0} → (D → D → Bool) → (Mark → Mark → Bool) → List (Found D) → List (Found D) → List Bool → Type 0
+AreMarked same order all [] [] = Unit {0}
+AreMarked same order all [] (b ∷ marks) = ⊥
+AreMarked same order all (f ∷ fs) [] = ⊥
+AreMarked same order all (f ∷ fs) (b ∷ marks) =
+    MatchBool b (IsShadowed same order all f) (IsShadowed same order all f → ⊥) × AreMarked same order all fs marks
+
+-- the things that have no mark
+abbrev pub unmarked : {X : Type 0} → List X → List Bool → List X
+unmarked [] marks = []
+unmarked (x ∷ xs) [] = x ∷ xs
+unmarked (x ∷ xs) (b ∷ marks) = if b then unmarked xs marks else x ∷ unmarked xs marks

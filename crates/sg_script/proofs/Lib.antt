@@ -1,0 +1,9 @@
+pub mod Conditions
+pub mod Examples
+pub mod Following
+pub mod Given
+pub mod Honest
+pub mod Left
+pub mod Next
+pub mod Owing
+pub mod Stages

@@ -1,0 +1,5 @@
+pub mod Example
+pub mod Following
+pub mod Law
+pub mod Owing
+pub mod Script

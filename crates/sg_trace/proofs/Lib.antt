@@ -1,0 +1,4 @@
+pub mod Fronts
+pub mod Holding
+pub mod Telling
+pub mod Traces
