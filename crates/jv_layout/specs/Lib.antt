@@ -1,0 +1,11 @@
+pub mod Folder
+pub mod Scopes
+pub mod Readers
+pub mod Skeleton
+pub mod Fits
+pub mod Titles
+pub mod Sizes
+pub mod Linked
+pub mod Tables
+pub mod Paths
+pub mod Rows

@@ -1,0 +1,26 @@
+-- Packages as prefixes of the clauses of files, and where a thing stands in a rising list.
+use Rattle.std.specs.Prelude.{◌≡◌, ℕ, ◌<◌, ◌≤◌, List, [], length, take, Result, MatchResult, None}
+use Rattle.std.specs.List.{slice_index_or}
+use Rattle.std.specs.declared.cmp.Ordering.{Ordering}
+use Rattle.std.specs.declared.cmp.Ordering.TheVariants.{Less, Equal, Greater}
+use Rattle.jv_tree.specs.DeclTree.{UnitTree}
+use Rattle.jv_layout.specs.declared.packages.Prefix.{Prefix}
+use Rattle.jv_layout.specs.Folder.{clause_of}
+
+-- a file with nothing in it
+abbrev pub no_unit : UnitTree
+no_unit = record { package_name = None; imports = []; types = [] }
+
+-- the package of the file with this number
+abbrev pub clause_at : List UnitTree → ℕ → List ℕ
+clause_at units f = clause_of (slice_index_or units f no_unit)
+
+-- the package that a prefix names
+abbrev pub path_at : List UnitTree → Prefix → List ℕ
+path_at units p = take p.len (clause_at units p.file)
+
+-- a thing stands at a place of a list, or would stand there: what is before it is less, and else what is behind it is greater
+abbrev pub IsSearched : {X : Type 0} → (X → X → Ordering) → List X → X → Result ℕ ℕ → Type 0
+IsSearched {X} R xs x r = MatchResult r
+    (λ i. (i < length xs) × ((d : X) → R x (slice_index_or xs i d) ≡ Equal) × ((k : ℕ) (d : X) → k < i → R x (slice_index_or xs k d) ≡ Greater))
+    (λ i. (i ≤ length xs) × ((k : ℕ) (d : X) → k < i → R x (slice_index_or xs k d) ≡ Greater) × ((k : ℕ) (d : X) → i ≤ k → k < length xs → R x (slice_index_or xs k d) ≡ Less))

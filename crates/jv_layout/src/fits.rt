@@ -1,0 +1,88 @@
+//! Which paths the scopes of a layout let stand.
+
+ghost use Rattle.std.specs.Prelude.{◌≡◌, ◌<◌};
+ghost use Rattle.jv_layout.specs.Fits.{fits, may_step, is_root, is_package, is_file, is_type, is_member, is_signature, is_member_by, is_inside};
+
+use crate::place::Place;
+use crate::tables::{Layout, label_of};
+use jv_instance::labels;
+use sg_base::Path;
+
+/// Whether a scope is the root.
+fn is_root(place: Place) -> bool
+    ensures { result ≡ is_root place }
+{
+    matches!(place, Place::Root)
+}
+
+/// Whether a scope is a package.
+fn is_package(place: Place) -> bool
+    ensures { result ≡ is_package place }
+{
+    matches!(place, Place::Unnamed | Place::Package(_))
+}
+
+/// Whether a scope is a file.
+fn is_file(place: Place) -> bool
+    ensures { result ≡ is_file place }
+{
+    matches!(place, Place::File(_))
+}
+
+/// Whether a scope is a type.
+fn is_type(place: Place) -> bool
+    ensures { result ≡ is_type place }
+{
+    matches!(place, Place::Ty(_))
+}
+
+impl Layout {
+    /// Whether a scope is a member whose edge has this label.
+    fn is_member_by(&self, label: u8, place: Place) -> bool
+        ensures { result ≡ is_member_by self.now label place }
+    {
+        match place {
+            Place::Member(m) => label_of(self.member_row(m).kind).number() == label,
+            _ => false,
+        }
+    }
+
+    /// Whether an edge with a label may go from a scope of one kind to one of another.
+    fn may_step(&self, from: Place, label: u8, to: Place) -> bool
+        ensures { result ≡ may_step self.now from label to }
+    {
+        match label {
+            labels::PKG => (is_root(from) || is_package(from)) && is_package(to),
+            labels::TYPE => (is_package(from) || is_type(from)) && is_type(to),
+            labels::SELF => is_file(from) && is_type(to),
+            labels::SIMP => is_file(from) && is_type(to),
+            labels::PKGOF => is_file(from) && is_package(to),
+            labels::ODI => is_file(from) && (is_package(to) || is_type(to)),
+            labels::EXT => is_type(from) && is_type(to),
+            labels::FIELD | labels::METH | labels::CTOR => {
+                is_type(from) && self.is_member_by(label, to)
+            }
+            labels::SIG => { matches!(from, Place::Member(_)) && matches!(to, Place::Signature(_)) }
+            _ => false,
+        }
+    }
+
+    /// Whether each scope of a path is one of the layout, and each step goes between the kinds of scopes that its label
+    /// joins. It takes time in the length of the path, and no memory.
+    pub fn fits(&self, p: &Path) -> bool
+        ensures { result ≡ fits self.now p.now }
+    {
+        let mut from = self.place(p.start());
+        if matches!(from, Place::Outside) {
+            return false;
+        }
+        for step in p.steps() {
+            let to = self.place(step.to);
+            if !self.may_step(from, step.label.number(), to) {
+                return false;
+            }
+            from = to;
+        }
+        true
+    }
+}

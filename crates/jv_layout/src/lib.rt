@@ -1,0 +1,30 @@
+//! The layout of a folder: which scopes there are, in which order, and what each is (JLS 6, 7, 8, 9).
+//!
+//! `specs/Folder.antt` says what the trees of the files declare, `specs/Scopes.antt` the numbers of scopes,
+//! `specs/Readers.antt` what a layout says of a scope, `specs/Skeleton.antt` the graph with which a run begins: each
+//! kind of edge, the data, and who holds what, `specs/Titles.antt` the printed names of scopes. `layout` collects
+//! packages, types and members from the trees; a `Layout` has its readers, `fits` and `title`. Its `opening` and the list
+//! of a type's members are not there yet. Nothing here looks into expressions.
+#![tactic(auto)]
+
+mod build;
+mod collect;
+mod fault;
+mod fits;
+mod opening;
+mod order;
+mod packages;
+mod place;
+pub mod prelude;
+mod readers;
+mod rows;
+mod tables;
+#[cfg(test)]
+mod tests;
+mod titles;
+
+pub use build::layout;
+pub use fault::LayoutFault;
+pub use place::Place;
+pub use rows::{MemberKind, MemberRow, Modifiers, PackageRow, TypeRow};
+pub use tables::Layout;
