@@ -85,7 +85,8 @@ impl<I: Instance> Search<I> {
     /// key are looked at, so that a name in a row of many costs one look-up.
     ///
     /// Costs what each explored item costs, a look-up for each item that is found to be blocked, for Blocked the sorting of
-    /// the needs, and for Ready a comparison of each two found paths.
+    /// the needs, and for Ready the sorting of the found paths; where the kind's order has a pair, also a comparison of each
+    /// two found paths whose data have one key.
     pub fn advance(&mut self, h: &Held<I>, t: &KindTable) -> Result<Progress, AllocError>
         requires table { IsOfTable t.now self.old }
         requires start { HasScope h.now.graph self.old.query.start }

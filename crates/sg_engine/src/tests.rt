@@ -12,7 +12,7 @@ ghost use Rattle.sg_engine.specs.Search.{IsOfTable};
 use crate::laws::stands_later;
 use crate::{Progress, Search};
 use sg_base::laws::extensions_chain;
-use sg_base::{Instance, Label, Scope};
+use sg_base::{Instance, Label, Scope, Step};
 use sg_expr::Expr;
 use sg_order::Order;
 use sg_query::{Answer, Kind, KindTable, Query};
@@ -92,6 +92,61 @@ impl Instance for Counted {
     } };
 
     ghost keyed = { λ p d k e t. absurd (cc) };
+
+    ghost one_key = { λ a b h. Prim.grind (arith, nat_tests) };
+}
+
+/// Data that are numbers, each its own key, and predicates that want one number.
+struct Keyed;
+
+impl Instance for Keyed {
+    ghost use Rattle.std.specs.Prelude.{◌==◌, Some};
+    ghost use Rattle.std.proofs.Common.{arith};
+    ghost use Rattle.std.proofs.lemmas.Bool.Decides.{nat_tests};
+
+    type Datum = u64;
+
+    type Pred = u64;
+
+    ghost wants = { λ p d. p == d };
+
+    ghost same_datum = { λ a b. a == b };
+
+    ghost pred_key = { λ p. Some p };
+
+    ghost datum_key = { λ d. d };
+
+    fn matches(p: &u64, d: &u64) -> bool {
+        *p == *d
+    }
+
+    fn same(a: &u64, b: &u64) -> bool {
+        *a == *b
+    }
+
+    fn key_of_pred(p: &u64) -> Option<u64> {
+        Some(*p)
+    }
+
+    fn key_of_datum(d: &u64) -> u64 {
+        *d
+    }
+
+    fn copy_datum(_alloc: Global, d: &u64) -> Result<u64, AllocError> {
+        Ok(*d)
+    }
+
+    fn copy_pred(_alloc: Global, p: &u64) -> Result<u64, AllocError> {
+        Ok(*p)
+    }
+
+    ghost sameness = { record {
+      reflexive = λ a. Prim.grind (arith, nat_tests);
+      symmetric = λ a b h. Prim.grind (arith, nat_tests);
+      transitive = λ a b c h k. Prim.grind (arith, nat_tests);
+    } };
+
+    ghost keyed = { λ p d k e t. Prim.grind (arith, nat_tests) };
 
     ghost one_key = { λ a b h. Prim.grind (arith, nat_tests) };
 }
@@ -438,5 +493,50 @@ fn open_rows_and_unset_data_block(rt: HostRuntime) -> Result<(), Fail> {
         Some(Some((1, Some((0, 7)))))
     );
     assert_eq!(rt; found_then(seen_of_datum(alloc, Change::Ended(1))?), none);
+    Ok(())
+}
+
+/// The answer of a search for a number behind a closed row with this many targets, if one advance finds it.
+fn answer_at_once(alloc: Global, targets: u32, wanted: u64) -> Result<Option<Answer<u64>>, Fail> {
+    let Some(table) = table_of(alloc, Expr::One(Label::new(0)))? else {
+        return Ok(None);
+    };
+    let o = star(alloc, targets)?;
+    if !o.is_sound() {
+        return Ok(None);
+    }
+    let held = Held::<Keyed>::open(alloc, o)?;
+    let query = Query {
+        start: scope(0),
+        kind: 0,
+        pred: wanted,
+    };
+    if table.is_empty() || !held.has_scope(query.start) {
+        return Ok(None);
+    }
+    let mut search = Search::<Keyed>::start(alloc, &table, query)?;
+    match search.advance(&held, &table)? {
+        Progress::Ready => Ok(Some(search.into_answer())),
+        Progress::Moved | Progress::Blocked => Ok(None),
+    }
+}
+
+#[test]
+fn a_key_in_a_long_row_is_found_at_once(rt: HostRuntime) -> Result<(), Fail> {
+    let step = Step {
+        label: Label::new(0),
+        to: scope(42),
+    };
+    match answer_at_once(rt.alloc(), 70, 41)? {
+        Some(Answer::Paths(found)) => match found.as_slice() {
+            [only] => {
+                assert_eq!(rt; only.path.start(), scope(0));
+                assert_eq!(rt; only.path.steps(), [step].as_slice());
+                assert_eq!(rt; only.datum, 41);
+            }
+            _ => return Err("not one path".into()),
+        },
+        _ => return Err("not found at once".into()),
+    }
     Ok(())
 }

@@ -9,7 +9,7 @@ use crate::script::Script;
 use crate::write::Write;
 use crate::writes::Writes;
 use sg_base::Instance;
-use sg_query::Query;
+use sg_query::{Query, copy_query};
 use sg_reading::Known;
 use sg_unit::{Op, Reply, Unit};
 use std::alloc::{AllocError, Global};
@@ -28,20 +28,6 @@ pub struct Follower<S: Script> {
     pending: Writes<<S::Inst as Instance>::Datum>,
     stage: usize,
     ended: bool,
-}
-
-/// A copy of a query.
-fn copy_query<I: Instance>(
-    alloc: Global,
-    query: &Query<I::Pred>,
-) -> Result<Query<I::Pred>, AllocError>
-    ensures { IfOk result (λ q. q ≡ query.now) }
-{
-    Ok(Query {
-        start: query.start,
-        kind: query.kind,
-        pred: I::copy_pred(alloc, &query.pred)?,
-    })
 }
 
 /// The operation that does a write.

@@ -1,23 +1,20 @@
 -- Readers of small programs are sound, and read what their headers say.
-use Rattle.std.proofs.Common.{◌≡◌, ℕ, ◌<◌, zero, suc, List, [], ◌∷◌, cond, is_some, Option, Some, None, inl, inr, refl, sym, ◌∙◌, subst, arith, length, slice_get}
+use Rattle.std.proofs.Common.{◌≡◌, ℕ, ◌<◌, zero, suc, List, [], ◌∷◌, cond, is_some, Option, Some, None, inl, inr, refl, sym, ◌∙◌, subst, arith, length}
 use Rattle.std.specs.List.{Contains}
 use Rattle.sg_base.specs.declared.scope.Scope.{Scope}
 use Rattle.sg_base.specs.Graph.{HasScope}
-use Rattle.sg_base.proofs.Finite.{nothing_in, single, Contains-head, Contains-tail, Contains-cons}
+use Rattle.sg_base.proofs.Finite.{nothing_in, single, Contains-head, Contains-tail}
 use Rattle.sg_query.specs.declared.answer.Answer.{Answer}
 use Rattle.sg_query.specs.Query.{KindOf}
 use Rattle.sg_query.specs.declared.query.Query.{Query}
 use Rattle.sg_reading.specs.declared.known.Known.TheVariants.{Is, Need as Needed}
 use Rattle.sg_reading.specs.Reading.{Reading, done, Gives, Asks, AllAsked, AllEnds, and_then}
 use Rattle.sg_reading.specs.Stop.{Replied, IsKnown}
-use Rattle.sg_state.specs.Held.{HeldOf, RowHold, HoldsRow}
-use Rattle.sg_unit.specs.declared.op.Op.{Op}
-use Rattle.sg_unit.specs.Served.{IsNew, AreNew}
-use Rattle.sg_unit.specs.Trace.{Past}
+use Rattle.sg_state.specs.Held.{RowHold, HoldsRow}
 use Rattle.sg_script.specs.declared.write.Write.{Write}
 use Rattle.sg_script.specs.Script.{Stage, IsQuery, IsStage, IsSound, row_writes, row_stage}
 use Rattle.sg_script.proofs.Stages.{rows_are_stages}
-use Rattle.sg_headers.specs.Small.{first, second, third, three, three_types, row_query, looking}
+use Rattle.sg_headers.specs.Small.{three, row_query, looking}
 use Rattle.sg_small.specs.Reader.{ReaderOf, type_of, reader_plan, first_missing, AreTypes, IsNewReader}
 
 -- ---- soundness
@@ -97,39 +94,3 @@ pub row_known : (reply : Query ℕ → Option (Answer ℕ)) (s : Scope) (ss ts :
 row_known reply s ss ts ws e w =
     subst (λ (l : List (Write ℕ)). IsKnown reply (row_stage s 0 (looking 5 ss ts)).rule (Is l)) (sym w)
     (gives reply ts (row_writes s 0 ts) (λ us. done (row_writes s 0 us)) refl ss (sym e))
-
--- ---- three types in lists
-
-type_is_one : (n : ℕ) → n < 3 → Contains three_types (type_of n)
-type_is_one zero b = Contains-head first (second ∷ third ∷ [])
-type_is_one (suc zero) b = Contains-tail first second (second ∷ third ∷ []) (Contains-head second (third ∷ []))
-type_is_one (suc (suc zero)) b = Contains-tail first third (second ∷ third ∷ []) (Contains-tail second third (third ∷ []) (Contains-head third []))
-type_is_one (suc (suc (suc n))) b = absurd (omega (arith, b))
-
-pub one_type : (n : ℕ) (ss : List Scope) → n < 3 → ss ≡ type_of n ∷ [] → AreTypes ss
-one_type n ss b e s c = subst (λ (t : Scope). Contains three_types t) (sym (single (type_of n) s (subst (λ (l : List Scope). Contains l s) e c))) (type_is_one n b)
-
-pub two_types : (n : ℕ) (ss : List Scope) → n < 3 → ss ≡ type_of n ∷ first ∷ [] → AreTypes ss
-two_types n ss b e s c =
-    elim (Contains-cons (type_of n) s (first ∷ []) (subst (λ (l : List Scope). Contains l s) e c)) [
-      | inl k ↦ subst (λ (t : Scope). Contains three_types t) (sym k) (type_is_one n b)
-      | inr k ↦ subst (λ (t : Scope). Contains three_types t) (sym (single first s k)) (type_is_one 0 (omega arith))
-    ]
-
-pub no_types : (ss : List Scope) → ss ≡ [] → AreTypes ss
-no_types ss e s c = absurd (nothing_in s (subst (λ (l : List Scope). Contains l s) e c))
-
--- ---- three units that are new
-
-pub three_new : {I R D P V F : Type 0} (number : V → ℕ) (fixed : V → F) (opening : F → HeldOf D) (kinds : F → List KindOf) (stands : V → Past I R D P → Option (Op I R D P) → Type 0) (h : HeldOf D) (t : List KindOf) (v w x : V)
-    → length h.made ≡ 3 → IsNew number fixed opening kinds stands h t 0 v → IsNew number fixed opening kinds stands h t 1 w → IsNew number fixed opening kinds stands h t 2 x → AreNew number fixed opening kinds stands h t (v ∷ w ∷ x ∷ [])
-three_new {I} {R} {D} {P} {V} {F} number fixed opening kinds stands h t v w x long a b c = (sym long, each)
-  where
-    some_is : (s t : V) → Some s ≡ Some t → s ≡ t
-    some_is s t k = cc
-
-    each : (u : ℕ) (y : V) → slice_get (v ∷ w ∷ x ∷ []) u ≡ Some y → IsNew number fixed opening kinds stands h t u y
-    each zero y e = subst (IsNew number fixed opening kinds stands h t 0) (some_is v y e) a
-    each (suc zero) y e = subst (IsNew number fixed opening kinds stands h t 1) (some_is w y e) b
-    each (suc (suc zero)) y e = subst (IsNew number fixed opening kinds stands h t 2) (some_is x y e) c
-    each (suc (suc (suc n))) y e = absurd (cc)

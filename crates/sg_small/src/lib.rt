@@ -9,3 +9,6 @@ mod reader;
 
 pub use numbers::Numbers;
 pub use reader::Reader;
+
+#[cfg(test)]
+mod tests;

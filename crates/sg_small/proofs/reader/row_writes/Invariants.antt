@@ -1,6 +1,5 @@
 use Rattle.std.proofs.Common.{◌≡◌, take, map}
 use Rattle.sg_base.specs.declared.scope.Scope.{Scope}
-use Rattle.sg_script.specs.declared.write.Write.{Write}
 use Rattle.sg_script.specs.declared.write.Write.TheVariants.{AddEdge}
 use Rattle.sg_small.proofs.reader.row_writes.Given as goal
 

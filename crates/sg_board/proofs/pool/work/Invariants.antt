@@ -1,7 +1,0 @@
-use Rattle.std.proofs.Common.{◌≡◌}
-use Rattle.crossbeam_queue.specs.Passes.{view, IsPassOf}
-use Rattle.sg_board.specs.Weighing.{IsFree}
-use Rattle.sg_board.proofs.pool.work.Given as goal
-
-abbrev pub invariant-loop : goal.invariant-loop
-invariant-loop g l = IsPassOf l.lock l.pass × IsFree (view l.pass) × ((view l.pass).parts ≡ (view l.fn.pass).parts) × ((view l.pass).brought ≡ (view l.fn.pass).brought)

@@ -1,2 +1,0 @@
-pub mod BoardNumbers
-pub mod Weighing

@@ -1,0 +1,16 @@
+use Rattle.std.proofs.Common.{ℕ}
+use Rattle.sg_script.specs.declared.follower.Follower.{Follower}
+use Rattle.sg_script.specs.Example.{reply_to}
+use Rattle.sg_script.specs.Following.{FollowsPlan}
+use Rattle.sg_small.specs.declared.numbers.Numbers.{Numbers}
+use Rattle.sg_small.specs.declared.reader.Reader.{Reader}
+use Rattle.sg_small.specs.Reader.{reader_plan}
+use Rattle.sg_small.proofs.Examples.{readers_are_new}
+use Rattle.sg_small.proofs.tests.serve.Goals as goal
+
+pub run_serial-requires-clause-new : goal.run_serial-requires-clause-new
+run_serial-requires-clause-new c =
+    readers_are_new {I = Numbers} (λ (f : Follower Reader Numbers ℕ ℕ ℕ). f.script) (λ f past last. FollowsPlan (reader_plan f.script) (reply_to f.script.replies) f.asked f.pending f.stage f.ended past last × Unit {0})
+    c.in_ok-core.core c.in_ok-units.units.items _ c.args.table c.in_ok-a.a c.in_ok-b.b c.in_ok-c.c
+    c.in_ok-core.ensures.opened c.in_ok-o.ensures c.in_ok-units.ensures
+    c.in_ok-a.ensures.reader (c.in_ok-a.ensures.follows, tt) c.in_ok-b.ensures.reader (c.in_ok-b.ensures.follows, tt) c.in_ok-c.ensures.reader (c.in_ok-c.ensures.follows, tt)
