@@ -8,6 +8,7 @@ mod diagnostic;
 mod fill;
 mod last;
 mod lines;
+mod list;
 mod making;
 #[cfg(test)]
 mod tests;
@@ -16,4 +17,5 @@ mod texts;
 pub use diagnostic::Diag;
 pub use last::last_line;
 pub use lines::{line, push_line};
+pub use list::DiagList;
 pub use making::diag;
