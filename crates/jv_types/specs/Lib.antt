@@ -1,0 +1,4 @@
+pub mod Conversion
+pub mod Law
+pub mod Operators
+pub mod Side
