@@ -1,6 +1,13 @@
 pub mod Collecting
 pub mod Putting
 pub mod Looping
+pub mod Keying
+pub mod Declaring
+pub mod Owning
 pub mod Paths
 pub mod Linking
 pub mod Naming
+pub mod SoundLists
+pub mod SoundPlaces
+pub mod SoundEdges
+pub mod SoundSkeletons

@@ -33,7 +33,7 @@ module _ (l : LayoutOf) where
       ∙ (ap (λ (o : Option ℕ). type_names l (suc k) o ++ outward old) (sym b) ∙ (ap (λ (n : ℕ). type_names l n at ++ outward old) (sym a) ∙ h))))
 
 module _ (names : List (List ℕ)) where
-  dotted_first : (n : ℕ) (ns : List ℕ) → text_of names n ++ following names ns ≡ dotted names (n ∷ ns)
+  pub dotted_first : (n : ℕ) (ns : List ℕ) → text_of names n ++ following names ns ≡ dotted names (n ∷ ns)
   dotted_first n [] = append-nil (text_of names n)
   dotted_first n (m ∷ ns) = ap (λ (z : List ℕ). text_of names n ++ 46 ∷ z) (dotted_first m ns)
 

@@ -2,6 +2,7 @@ pub mod Folder
 pub mod Scopes
 pub mod Readers
 pub mod Skeleton
+pub mod Keys
 pub mod Fits
 pub mod Titles
 pub mod Sizes
@@ -9,3 +10,7 @@ pub mod Linked
 pub mod Tables
 pub mod Paths
 pub mod Rows
+pub mod Laws
+pub mod Examples
+pub mod Duplicates
+pub mod Declarations

@@ -1,19 +1,21 @@
 //! The layout of a folder.
 
-ghost use Rattle.std.specs.Prelude.{◌≡◌, ◌+◌, ◌^◌, ◌<◌, ◌≤◌, length, map, IfOk, IfErr, OnOk};
+ghost use Rattle.std.specs.Prelude.{◌≡◌, ◌+◌, ◌^◌, ◌<◌, ◌≤◌, [], length, map, All, IfOk, IfErr, OnOk};
+ghost use Rattle.std.specs.List.{range_with_len};
 ghost use Rattle.jv_tree.specs.DeclTree.{tree_of};
 ghost use Rattle.jv_layout.specs.Folder.{layout_of};
 ghost use Rattle.jv_layout.specs.Linked.{IsLinked};
 ghost use Rattle.jv_layout.specs.Scopes.{scope_count};
 ghost use Rattle.jv_layout.specs.Sizes.{IsFolder, own_types, most_types};
-ghost use Rattle.jv_layout.specs.Rows.{layout_by};
+ghost use Rattle.jv_layout.specs.Rows.{layout_by, owned};
 
 use crate::collect::Collected;
 use crate::fault::LayoutFault;
 use crate::packages::{file_rows, package_rows, paths};
-use crate::rows::{PackageRow, TypeRow};
-use crate::tables::{Layout, scopes_from};
+use crate::rows::{MemberRow, PackageRow, TypeRow};
+use crate::tables::{Layout, scope_at, scopes_from};
 use jv_tree::{Names, Unit};
+use sg_base::Scope;
 use std::alloc::{AllocError, Global};
 
 /// How many types a folder may declare beside the prelude's.
@@ -24,6 +26,36 @@ fn own_types(types: &[TypeRow]) -> usize
     ensures { result ≡ own_types types.now }
 {
     types.iter().filter(|row| row.file >= 2).count()
+}
+
+/// So many lists with nothing in them.
+fn empty_lists(alloc: Global, count: usize) -> Result<Vec<Vec<Scope>>, AllocError>
+    ensures { IfOk result (λ v. map (λ x. x.items) v.items ≡ map (λ _. []) (range_with_len 0 count)) }
+{
+    let mut lists = Vec::new(alloc);
+    for _ in 0..count {
+        lists.push(Vec::new(alloc))?;
+    }
+    Ok(lists)
+}
+
+/// The scopes of the members of each type, where the scope of the first member of all has the first number.
+fn scopes_by_owner(
+    alloc: Global,
+    first: u32,
+    types: usize,
+    members: &[MemberRow],
+) -> Result<Vec<Vec<Scope>>, AllocError>
+    requires owners { All (λ r. r.owner < types) members.now }
+    requires few { first + length members.now < 2 ^ 32 }
+    ensures { IfOk result (λ v. map (λ x. x.items) v.items
+        ≡ map (λ t. owned members.now first t (length members.now)) (range_with_len 0 types)) }
+{
+    let mut lists = empty_lists(alloc, types)?;
+    for (m, row) in members.iter().enumerate() {
+        lists[row.owner as usize].push(scope_at(first + m as u32))?;
+    }
+    Ok(lists)
 }
 
 /// The layout with these rows.
@@ -38,14 +70,17 @@ fn from_rows(
     ensures { IfOk result (λ l. l ≡ layout_by packages.items files.items collected.types.items collected.members.items) }
 {
     let Collected { types, members } = collected;
-    let first = 2 + packages.len() as u32 + files.len() as u32;
-    let type_scopes = scopes_from(alloc, first, types.len() as u32)?;
+    let first_type = 2 + packages.len() as u32 + files.len() as u32;
+    let first_member = first_type + types.len() as u32;
+    let type_scopes = scopes_from(alloc, first_type, types.len() as u32)?;
+    let member_scopes = scopes_by_owner(alloc, first_member, types.len(), &members)?;
     Ok(Layout {
         packages,
         files,
         types,
         members,
         type_scopes,
+        member_scopes,
     })
 }
 

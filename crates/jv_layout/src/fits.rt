@@ -38,7 +38,7 @@ fn is_type(place: Place) -> bool
 
 impl Layout {
     /// Whether a scope is a member whose edge has this label.
-    fn is_member_by(&self, label: u8, place: Place) -> bool
+    pub fn is_member_by(&self, label: u8, place: Place) -> bool
         ensures { result ≡ is_member_by self.now label place }
     {
         match place {

@@ -1,89 +1,16 @@
-//! The parts of a layout's opening, the graph with which a run begins.
+//! The opening of a layout, the graph with which a run begins.
 
-ghost use Rattle.std.specs.Prelude.{◌≡◌, ◌+◌, ◌<◌, ◌^◌, ◌++◌, length, map, option_map, IfOk, OnOk};
-ghost use Rattle.sg_state.specs.Opening.{edge_of, row_hold_of, held_datum_of, opening_of};
-ghost use Rattle.jv_layout.specs.Readers.{type_at, member_at, file_package};
-ghost use Rattle.jv_layout.specs.Scopes.{scope_at, scope_count, file_scope, type_scope, member_scope, signature_of_member};
-ghost use Rattle.jv_layout.specs.Skeleton.{below, skeleton_of, package_edges, file_edges, lang_edges, type_edges, self_edges, member_edges, signature_edges, package_data, type_data, member_data, file_holds, type_holds, signature_holds, first_types, first_members, parent_scope, package_row_at, home_of, label_of};
+ghost use Rattle.std.specs.Prelude.{◌≡◌, ◌++◌, map, IfOk, OnOk};
+ghost use Rattle.sg_state.specs.Opening.{row_hold_of, held_datum_of, opening_of};
+ghost use Rattle.jv_layout.specs.Skeleton.{skeleton_of, type_data, member_data, type_holds};
 
-use crate::tables::{Layout, scope_at};
+use crate::tables::{Layout, scope_at, scopes_from};
 use jv_instance::{JavaDatum, labels};
 use sg_base::{Label, Scope};
+use sg_state::Opening;
 use std::alloc::{AllocError, Global};
 
 impl Layout {
-    /// The scope that encloses a package.
-    fn parent_scope(&self, p: usize) -> Scope
-        requires { p < length self.now.packages }
-        ensures { result ≡ parent_scope (package_row_at self.now p).parent }
-    {
-        match self.packages[p].parent {
-            None => scope_at(0),
-            Some(outer) => scope_at(2 + outer),
-        }
-    }
-
-    /// The scope that declares a type.
-    fn home(&self, t: usize) -> Scope
-        requires { t < length self.now.types }
-        ensures { result ≡ home_of self.now (type_at self.now t) }
-    {
-        let row = self.types[t];
-        match row.owner {
-            Some(owner) => scope_at(self.first_type() + owner),
-            None => self.file_package(row.file as usize),
-        }
-    }
-
-    /// The edges between packages.
-    fn add_package_edges(&self, edges: &mut Vec<(Scope, Label, Scope)>) -> Result<(), AllocError>
-        ensures { OnOk result (map edge_of edges.new.items ≡ map edge_of edges.old.items ++ package_edges self.now) }
-    {
-        let label = Label::new(labels::PKG);
-        for p in 0..self.packages.len() {
-            edges.push((self.parent_scope(p), label, scope_at(2 + p as u32)))?;
-        }
-        Ok(())
-    }
-
-    /// The edges from files to their packages.
-    fn add_file_edges(&self, edges: &mut Vec<(Scope, Label, Scope)>) -> Result<(), AllocError>
-        ensures { OnOk result (map edge_of edges.new.items ≡ map edge_of edges.old.items ++ file_edges self.now) }
-    {
-        let label = Label::new(labels::PKGOF);
-        for f in 0..self.files.len() {
-            edges.push((self.file_scope(f as u32), label, self.file_package(f)))?;
-        }
-        Ok(())
-    }
-
-    /// The edges from files to `java.lang`.
-    fn add_lang_edges(&self, edges: &mut Vec<(Scope, Label, Scope)>) -> Result<(), AllocError>
-        ensures { OnOk result (map edge_of edges.new.items ≡ map edge_of edges.old.items ++ lang_edges self.now) }
-    {
-        let label = Label::new(labels::ODI);
-        let lang = self.file_package(0);
-        for f in 0..self.files.len() {
-            edges.push((self.file_scope(f as u32), label, lang))?;
-        }
-        Ok(())
-    }
-
-    /// The edges from members to the scopes of their signatures.
-    fn add_signature_edges(&self, edges: &mut Vec<(Scope, Label, Scope)>) -> Result<(), AllocError>
-        ensures { OnOk result (map edge_of edges.new.items ≡ map edge_of edges.old.items ++ signature_edges self.now) }
-    {
-        let label = Label::new(labels::SIG);
-        for m in 0..self.members.len() {
-            edges.push((
-                self.member_scope(m as u32),
-                label,
-                self.signature_of_member(m as u32),
-            ))?;
-        }
-        Ok(())
-    }
-
     /// The data of packages, types and members.
     fn given(&self, alloc: Global) -> Result<Vec<(Scope, JavaDatum)>, AllocError>
         ensures { IfOk result (λ v. v.items ≡ (skeleton_of self.now).given) }
@@ -159,5 +86,22 @@ impl Layout {
             holds.push((files + owner, self.signature_of_member(m as u32)))?;
         }
         Ok(holds)
+    }
+
+    /// The graph with which a run begins, and who holds what there: a unit for each file, and then one for each type. No
+    /// edge goes to a type with the name of an earlier one of its package or type, nor to a member with the kind and the
+    /// name of an earlier one of its type. It takes time in the number of scopes, with one look-up by hash for each type
+    /// and member.
+    pub fn opening(&self, alloc: Global) -> Result<Opening<JavaDatum>, AllocError>
+        ensures { IfOk result (λ o. opening_of o ≡ skeleton_of self.now) }
+    {
+        Ok(Opening {
+            scopes: scopes_from(alloc, 0, self.scope_count())?,
+            edges: self.edges(alloc)?,
+            given: self.given(alloc)?,
+            row_holds: self.row_holds(alloc)?,
+            datum_holds: self.datum_holds(alloc)?,
+            units: self.files.len() as u32 + self.types.len() as u32,
+        })
     }
 }

@@ -1,13 +1,15 @@
 //! What a layout says of its scopes.
 
-ghost use Rattle.std.specs.Prelude.{◌≡◌, ◌<◌, ◌^◌, length, option_map};
-ghost use Rattle.jv_layout.specs.Readers.{type_at, owner_of, file_package, is_interface_at, lies_in_interface, written_access, type_access, member_at, member_access_by, access_of, is_static_type, is_static_of, is_final_of, is_abstract_of, is_interface_of, file_of, owner_scope, package_of, top_of, signature_scope, types_of, object_scope, string_scope};
-ghost use Rattle.jv_layout.specs.Scopes.{root_scope, file_scope, type_scope};
+ghost use Rattle.std.specs.Prelude.{◌≡◌, ◌<◌, ◌^◌, length, map, option_map};
+ghost use Rattle.jv_layout.specs.Readers.{type_at, owner_of, file_package, is_interface_at, lies_in_interface, written_access, type_access, member_at, member_access_by, access_of, is_static_type, is_static_of, is_final_of, is_abstract_of, is_interface_of, file_of, owner_scope, package_of, top_of, signature_scope, members_of, members_of_type, types_of, object_scope, string_scope};
+ghost use Rattle.jv_layout.specs.Duplicates.{simple_name};
+ghost use Rattle.jv_layout.specs.Scopes.{root_scope, file_scope, type_scope, member_scope, scope_count};
 
 use crate::place::Place;
 use crate::rows::{MemberKind, Modifiers, TypeRow};
 use crate::tables::{Layout, scope_at};
 use jv_instance::Access;
+use jv_tree::NameId;
 use sg_base::Scope;
 
 /// The access that is written; the strongest counts.
@@ -84,7 +86,8 @@ impl Layout {
 
     /// The row of a member's type.
     fn owner_row(&self, m: u32) -> TypeRow
-        ensures { result ≡ owner_of self.now m }
+        ensures value { result ≡ owner_of self.now m }
+        ensures file { result.file < 2 ^ 31 }
     {
         let row = self.member_row(m);
         self.type_row(row.owner)
@@ -181,9 +184,23 @@ impl Layout {
         }
     }
 
+    /// The simple name of a package, a type or a member, which for a constructor is its class's (JLS 6.2); other scopes
+    /// have none. It takes constant time.
+    pub fn simple_name(&self, s: Scope) -> Option<NameId>
+        ensures { result ≡ simple_name self.now s }
+    {
+        match self.place(s) {
+            Place::Package(p) => Some(self.package_row(p).name),
+            Place::Ty(t) => Some(self.type_row(t).name),
+            Place::Member(m) => Some(self.member_row(m).name),
+            _ => None,
+        }
+    }
+
     /// The number of the file in which a type or a member stands, or that a file has.
     pub fn file_of(&self, s: Scope) -> u32
-        ensures { result ≡ file_of self.now s }
+        ensures value { result ≡ file_of self.now s }
+        ensures small { result < 2 ^ 31 }
     {
         match self.place(s) {
             Place::File(f) => f,
@@ -217,9 +234,11 @@ impl Layout {
         }
     }
 
-    /// The scope of a member's type, by the member's number; the first type for a number that is none.
-    fn type_of_member(&self, m: u32) -> Scope
-        ensures { result ≡ type_scope self.now (member_at self.now m).owner }
+    /// The scope of a member's type, by the member's number; the first type for a number that is none. There are
+    /// fewer than 2^31 scopes.
+    pub(crate) fn type_of_member(&self, m: u32) -> Scope
+        ensures value { result ≡ type_scope self.now (member_at self.now m).owner }
+        ensures few { scope_count self.now < 2 ^ 31 }
     {
         match self.members.get(m as usize) {
             Some(row) => self.type_scope(row.owner),
@@ -261,6 +280,27 @@ impl Layout {
             Place::Member(m) => self.top_of_type(self.member_row(m).owner),
             Place::Signature(m) => self.top_of_type(self.member_row(m).owner),
             _ => s,
+        }
+    }
+
+    /// The fields, methods and constructors of a type, as the text has them; none of other scopes. It takes constant time.
+    pub fn members(&self, s: Scope) -> &[Scope]
+        ensures { result.now ≡ members_of self.now s }
+    {
+        match self.place(s) {
+            Place::Ty(t) => self.members_of_type(t),
+            _ => &[],
+        }
+    }
+
+    /// The members of a type, by its number.
+    fn members_of_type(&self, t: u32) -> &[Scope]
+        requires { t < length self.now.types }
+        ensures { result.now ≡ map (member_scope self.now) (members_of_type self.now t) }
+    {
+        match self.member_scopes.get(t as usize) {
+            Some(members) => members.as_slice(),
+            None => &[],
         }
     }
 

@@ -27,6 +27,7 @@ pub struct Layout {
     pub(crate) types: Vec<TypeRow>,
     pub(crate) members: Vec<MemberRow>,
     pub(crate) type_scopes: Vec<Scope>,
+    pub(crate) member_scopes: Vec<Vec<Scope>>,
 }
 
 impl Model for Layout {
@@ -82,7 +83,8 @@ pub fn scopes_from(alloc: Global, first: u32, count: u32) -> Result<Vec<Scope>, 
 impl Layout {
     /// The row of a type; for a number that is none, a row that stands for none.
     pub(crate) fn type_row(&self, t: u32) -> TypeRow
-        ensures { result ≡ type_at self.now t }
+        ensures value { result ≡ type_at self.now t }
+        ensures file { result.file < 2 ^ 31 }
     {
         match self.types.get(t as usize) {
             Some(row) => *row,
@@ -157,6 +159,14 @@ impl Layout {
         self.first_member() + self.members.len() as u32
     }
 
+    /// How many scopes there are.
+    pub(crate) fn scope_count(&self) -> u32
+        ensures value { result ≡ scope_count self.now }
+        ensures few { scope_count self.now < 2 ^ 31 }
+    {
+        self.first_signature() + self.members.len() as u32
+    }
+
     /// The scope of a type.
     pub(crate) fn type_scope(&self, t: u32) -> Scope
         requires { t < 2 ^ 31 }
@@ -191,21 +201,25 @@ impl Layout {
         scope_at(self.first_signature() + m)
     }
 
-    /// What a scope is. It takes constant time.
+    /// What a scope is, and how many scopes there are at most. It takes constant time.
     pub fn place(&self, s: Scope) -> Place
         ensures value { result ≡ place_of self.now s }
         ensures row { IsPlace self.now result }
+        ensures few { scope_count self.now < 2 ^ 31 }
     {
-        if s.unit != NOBODY {
-            return Place::Outside;
+        let place = self.place_at(s.serial);
+        if s.unit == NOBODY {
+            place
+        } else {
+            Place::Outside
         }
-        self.place_at(s.serial)
     }
 
-    /// What the scope with a number is.
+    /// What the scope with a number is, and how many scopes there are at most.
     fn place_at(&self, n: u32) -> Place
         ensures value { result ≡ place_at self.now n }
         ensures row { IsPlace self.now result }
+        ensures few { scope_count self.now < 2 ^ 31 }
     {
         let first_file = self.first_file();
         let first_type = self.first_type();
@@ -223,7 +237,7 @@ impl Layout {
             Place::Ty(n - first_type)
         } else if n < first_signature {
             Place::Member(n - first_member)
-        } else if n < first_signature + self.members.len() as u32 {
+        } else if n < self.scope_count() {
             Place::Signature(n - first_signature)
         } else {
             Place::Outside
