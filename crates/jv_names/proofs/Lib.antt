@@ -1,0 +1,11 @@
+pub mod References
+pub mod Steps
+pub mod Dots
+pub mod Ending
+pub mod Outward
+pub mod Paths
+pub mod Asking
+pub mod Before
+pub mod Table
+pub mod Walking
+pub mod Bounds

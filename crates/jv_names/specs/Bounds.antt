@@ -1,0 +1,152 @@
+-- What rules of names ask and find: queries from places of the layout, and its types and packages.
+use Rattle.std.specs.Prelude.{◌≡◌, ℕ, ◌<◌, List, length, Bool, true, false, IsTrue, All, ◌⊎◌, Option, IfSome}
+use Rattle.sg_base.specs.declared.scope.Scope.{Scope}
+use Rattle.sg_query.specs.declared.query.Query.{Query}
+use Rattle.sg_reading.specs.Reading.{AllAsked, AllEnds}
+use Rattle.jv_instance.specs.declared.pred.JavaPred.{JavaPred}
+use Rattle.jv_instance.specs.declared.pred.JavaPred.TheVariants.{Named, Any}
+use Rattle.jv_instance.specs.declared.labels.TheConstants.{FIELD, METH}
+use Rattle.jv_layout.specs.declared.place.Place.{Place}
+use Rattle.jv_layout.specs.declared.place.Place.TheVariants.{Outside, Root, Unnamed, Package, File, Ty, Member, Signature}
+use Rattle.jv_layout.specs.Fits.{is_package, is_type, is_member_by}
+use Rattle.jv_layout.specs.Folder.{LayoutOf}
+use Rattle.jv_layout.specs.Linked.{IsLinked}
+use Rattle.jv_layout.specs.Scopes.{place_of}
+use Rattle.jv_tree.specs.declared.name.Ident.{Ident}
+use Rattle.jv_tree.specs.declared.names.NameId.{NameId}
+use Rattle.jv_tree.specs.Numbered.{IsNumberedName}
+use Rattle.jv_names.specs.declared.context.Context.{Context}
+use Rattle.jv_names.specs.declared.context.Context.TheVariants.{TypeName, SingleImport, OnDemandImport}
+use Rattle.jv_names.specs.declared.ends.Ends.{Ends}
+use Rattle.jv_names.specs.declared.ends.Ends.TheVariants.{Scopes, TooMany as TooManyEnds}
+use Rattle.jv_names.specs.declared.kinds.TheConstants.{SIG}
+use Rattle.jv_names.specs.declared.meaning.Meaning.{Meaning}
+use Rattle.jv_names.specs.declared.meaning.Meaning.TheVariants.{One, Nothing, Ambiguous, TooMany}
+use Rattle.jv_names.specs.declared.reference.Reference.{Reference}
+use Rattle.jv_names.specs.declared.resolved.Resolved.{Resolved}
+use Rattle.jv_names.specs.Access.{type_accessible, member_accessible}
+use Rattle.jv_names.specs.Bodies.{header_bodies, member_bodies}
+use Rattle.jv_names.specs.Kinds.{kinds}
+use Rattle.jv_names.specs.Members.{field, methods}
+use Rattle.jv_names.specs.Names.{type_name, import_context, import_name}
+use Rattle.jv_names.specs.Reference.{reference}
+use Rattle.jv_names.specs.Replies.{Rule}
+
+-- ---- queries
+
+-- whether queries of names start there: at the root, a package, a file or a type
+abbrev pub is_start : Place → Bool
+is_start Root = true
+is_start Unnamed = true
+is_start (Package p) = true
+is_start (File f) = true
+is_start (Ty t) = true
+is_start Outside = false
+is_start (Member m) = false
+is_start (Signature m) = false
+
+-- a predicate asks for any name, or for one of so many names
+abbrev pub IsNamePred : ℕ → JavaPred → Type 0
+IsNamePred count Any = Unit {0}
+IsNamePred count (Named n) = n.0 < count
+
+-- a query starts at such a place of the layout, is of a kind of the table but that of signatures, and asks for a name of so many
+pub record IsNameQuery (l : LayoutOf) (count : ℕ) (q : Query JavaPred) : Type 0 where
+  pub start : IsTrue (is_start (place_of l q.start))
+  pub kind : q.kind < length kinds
+  pub plain : q.kind ≡ SIG → ⊥
+  pub pred : IsNamePred count q.pred
+
+-- ---- what is found
+
+-- a scope is a type of the layout
+abbrev pub IsTypeScope : LayoutOf → Scope → Type 0
+IsTypeScope l s = IsTrue (is_type (place_of l s))
+
+-- a scope is a package of the layout
+abbrev pub IsPackageScope : LayoutOf → Scope → Type 0
+IsPackageScope l s = IsTrue (is_package (place_of l s))
+
+-- all of the scopes are types of the layout
+abbrev pub AreTypes : LayoutOf → List Scope → Type 0
+AreTypes l ts = All (IsTypeScope l) ts
+
+-- where a meaning is one scope, that is of this kind
+abbrev pub MeansOnly : (Scope → Type 0) → Meaning → Type 0
+MeansOnly P (One s) = P s
+MeansOnly P Nothing = Unit {0}
+MeansOnly P Ambiguous = Unit {0}
+MeansOnly P TooMany = Unit {0}
+
+-- a scope is what a name may mean: a type, and in an import on demand a package too
+abbrev pub IsMeant : LayoutOf → Context → Scope → Type 0
+IsMeant l TypeName s = IsTypeScope l s
+IsMeant l SingleImport s = IsTypeScope l s
+IsMeant l OnDemandImport s = IsTypeScope l s ⊎ IsPackageScope l s
+
+-- where there are not too many ends, they are of this kind
+abbrev pub EndsOnly : (Scope → Type 0) → Ends → Type 0
+EndsOnly P (Scopes ss) = All P ss
+EndsOnly P TooManyEnds = Unit {0}
+
+-- a scope is a member of the layout whose edge has this label
+abbrev pub IsMemberScope : LayoutOf → ℕ → Scope → Type 0
+IsMemberScope l label s = IsTrue (is_member_by l label (place_of l s))
+
+-- a name means what it may mean, and its parts mean types
+pub record IsResolvedIn (l : LayoutOf) (context : Context) (r : Resolved) : Type 0 where
+  pub meaning : MeansOnly (IsMeant l context) r.meaning
+  pub types : AreTypes l r.types
+
+-- a reference means what it may mean, and types alone are refused
+pub record IsReferenceIn (l : LayoutOf) (context : Context) (r : Reference) : Type 0 where
+  pub meaning : MeansOnly (IsMeant l context) r.meaning
+  pub refused : AreTypes l r.refused
+
+-- ---- rules
+
+-- whatever the answers, a rule asks queries of names alone, and ends with values of this kind
+pub record StaysIn {U : Type 0} (l : LayoutOf) (count : ℕ) (E : U → Type 0) (r : Rule U) : Type 0 where
+  pub asks : AllAsked (IsNameQuery l count) r
+  pub ends : AllEnds E r
+
+-- the names of types
+abbrev pub TypeNamesStayIn : Type 0
+TypeNamesStayIn =
+    (l : LayoutOf) (count file : ℕ) (bodies : List Scope) (ids : List Ident) → file < length l.files → AreTypes l bodies → IsNumberedName count ids
+    → StaysIn l count (IsResolvedIn l TypeName) (type_name l file bodies ids)
+
+-- the names of imports
+abbrev pub ImportsStayIn : Type 0
+ImportsStayIn =
+    (l : LayoutOf) (count : ℕ) (all : Bool) (ids : List Ident) → IsNumberedName count ids → StaysIn l count (IsResolvedIn l (import_context all)) (import_name l all ids)
+
+-- whether a type is accessible
+abbrev pub TypeAccessStaysIn : Type 0
+TypeAccessStaysIn =
+    (l : LayoutOf) (count file : ℕ) (bodies : List Scope) (t : Scope) → AreTypes l bodies → StaysIn l count (λ (b : Bool). Unit {0}) (type_accessible l file bodies t)
+
+-- references to types
+abbrev pub ReferencesStayIn : Type 0
+ReferencesStayIn =
+    (l : LayoutOf) (count file : ℕ) (bodies : List Scope) (ids : List Ident) → file < length l.files → AreTypes l bodies → IsNumberedName count ids
+    → StaysIn l count (IsReferenceIn l TypeName) (reference l file bodies ids)
+
+-- the fields and the methods of a name in a type
+abbrev pub FieldsStayIn : Type 0
+FieldsStayIn = (l : LayoutOf) (count : ℕ) (class : Scope) (n : NameId) → IsTypeScope l class → n.0 < count → StaysIn l count (MeansOnly (IsMemberScope l FIELD)) (field l class n)
+
+abbrev pub MethodsStayIn : Type 0
+MethodsStayIn = (l : LayoutOf) (count : ℕ) (class : Scope) (n : NameId) → IsTypeScope l class → n.0 < count → StaysIn l count (EndsOnly (IsMemberScope l METH)) (methods l class n)
+
+-- whether a member is accessible
+abbrev pub MemberAccessStaysIn : Type 0
+MemberAccessStaysIn =
+    (l : LayoutOf) (count file : ℕ) (bodies : List Scope) (m : Scope) (through : Option Scope) → AreTypes l bodies → IfSome through (IsTypeScope l)
+    → StaysIn l count (λ (b : Bool). Unit {0}) (member_accessible l file bodies m through)
+
+-- ---- bodies
+
+-- the bodies around a type's header are types, and so are those around what stands in its body
+abbrev pub BodiesAreTypes : Type 0
+BodiesAreTypes = (l : LayoutOf) (c : Scope) → IsLinked l → IsTypeScope l c → AreTypes l (header_bodies l c) × AreTypes l (member_bodies l c)

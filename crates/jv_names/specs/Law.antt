@@ -1,0 +1,46 @@
+-- What a rule of names looks at in a graph: the answers to its own queries, and nothing else.
+use Rattle.std.specs.Prelude.{ℕ, List, Bool, Option}
+use Rattle.sg_base.specs.declared.scope.Scope.{Scope}
+use Rattle.sg_base.specs.Graph.{GraphOf}
+use Rattle.sg_query.specs.declared.answer.Answer.{Answer}
+use Rattle.sg_query.specs.declared.query.Query.{Query}
+use Rattle.sg_query.specs.Answer.{IsAnswer}
+use Rattle.sg_reading.specs.Reading.{Gives, AnswersAlike}
+use Rattle.jv_instance.specs.declared.datum.JavaDatum.{JavaDatum}
+use Rattle.jv_instance.specs.declared.pred.JavaPred.{JavaPred}
+use Rattle.jv_layout.specs.Folder.{LayoutOf}
+use Rattle.jv_tree.specs.declared.name.Ident.{Ident}
+use Rattle.jv_tree.specs.declared.names.NameId.{NameId}
+use Rattle.jv_names.specs.Access.{type_accessible, member_accessible}
+use Rattle.jv_names.specs.Kinds.{asked_by}
+use Rattle.jv_names.specs.Members.{field, methods}
+use Rattle.jv_names.specs.Names.{type_name, import_name}
+use Rattle.jv_names.specs.Replies.{Rule}
+
+-- the query has this answer in the graph
+abbrev pub InGraph : GraphOf JavaDatum → Query JavaPred → Answer JavaDatum → Type 0
+InGraph g q a = IsAnswer g (asked_by q) a
+
+-- where two graphs answer alike the queries that the rule asks in the first, it has in the second the same value, after the same queries
+abbrev pub ReadsOnlyItsQueries : {U : Type 0} → Rule U → Type 0
+ReadsOnlyItsQueries {U} r =
+    (g h : GraphOf JavaDatum) (v : U) (qs : List (Query JavaPred)) → Gives (InGraph g) r v qs → AnswersAlike (InGraph g) (InGraph h) qs → Gives (InGraph h) r v qs
+
+abbrev pub TypeNamesReadOnlyTheirQueries : Type 0
+TypeNamesReadOnlyTheirQueries = (l : LayoutOf) (file : ℕ) (bodies : List Scope) (ids : List Ident) → ReadsOnlyItsQueries (type_name l file bodies ids)
+
+abbrev pub ImportsReadOnlyTheirQueries : Type 0
+ImportsReadOnlyTheirQueries = (l : LayoutOf) (all : Bool) (ids : List Ident) → ReadsOnlyItsQueries (import_name l all ids)
+
+abbrev pub TypeAccessReadsOnlyItsQueries : Type 0
+TypeAccessReadsOnlyItsQueries = (l : LayoutOf) (file : ℕ) (bodies : List Scope) (t : Scope) → ReadsOnlyItsQueries (type_accessible l file bodies t)
+
+abbrev pub FieldsReadOnlyTheirQueries : Type 0
+FieldsReadOnlyTheirQueries = (l : LayoutOf) (class : Scope) (n : NameId) → ReadsOnlyItsQueries (field l class n)
+
+abbrev pub MethodsReadOnlyTheirQueries : Type 0
+MethodsReadOnlyTheirQueries = (l : LayoutOf) (class : Scope) (n : NameId) → ReadsOnlyItsQueries (methods l class n)
+
+abbrev pub MemberAccessReadsOnlyItsQueries : Type 0
+MemberAccessReadsOnlyItsQueries =
+    (l : LayoutOf) (file : ℕ) (bodies : List Scope) (m : Scope) (through : Option Scope) → ReadsOnlyItsQueries (member_accessible l file bodies m through)

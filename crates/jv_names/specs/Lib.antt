@@ -1,0 +1,13 @@
+pub mod Access
+pub mod Ends
+pub mod Inherited
+pub mod Kinds
+pub mod Law
+pub mod Members
+pub mod Names
+pub mod Parts
+pub mod Replies
+pub mod Bodies
+pub mod Reference
+pub mod Written
+pub mod Bounds

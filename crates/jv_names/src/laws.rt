@@ -1,0 +1,58 @@
+//! Laws of the rules of names, each the contract of a function that does nothing.
+
+ghost use Rattle.jv_names.specs.Bounds.{TypeNamesStayIn, ImportsStayIn, TypeAccessStaysIn, ReferencesStayIn, FieldsStayIn, MethodsStayIn, MemberAccessStaysIn, BodiesAreTypes};
+ghost use Rattle.jv_names.specs.Law.{TypeNamesReadOnlyTheirQueries, ImportsReadOnlyTheirQueries, TypeAccessReadsOnlyItsQueries, FieldsReadOnlyTheirQueries, MethodsReadOnlyTheirQueries, MemberAccessReadsOnlyItsQueries};
+
+/// The meaning of the name of a type looks at a graph only by the queries that it asks.
+pub fn resolve_type_reads_only_its_queries()
+    ensures { TypeNamesReadOnlyTheirQueries }
+{}
+
+/// The meaning of an import looks at a graph only by the queries that it asks.
+pub fn resolve_import_reads_only_its_queries()
+    ensures { ImportsReadOnlyTheirQueries }
+{}
+
+/// Whether a type is accessible looks at a graph only by the queries that it asks.
+pub fn type_accessible_reads_only_its_queries()
+    ensures { TypeAccessReadsOnlyItsQueries }
+{}
+
+/// The field of a name looks at a graph only by the query that it asks.
+pub fn find_field_reads_only_its_queries()
+    ensures { FieldsReadOnlyTheirQueries }
+{}
+
+/// The methods of a name look at a graph only by the query that they ask.
+pub fn find_methods_reads_only_its_queries()
+    ensures { MethodsReadOnlyTheirQueries }
+{}
+
+/// Whether a member is accessible looks at a graph only by the queries that it asks.
+pub fn accessible_reads_only_its_queries()
+    ensures { MemberAccessReadsOnlyItsQueries }
+{}
+
+/// Whatever the answers, the rules of names and of access ask from the root, packages, files and types of the layout alone,
+/// never for signatures, and only for names that are numbered. What a name means is a type of the layout, and in an import
+/// on demand a type or a package.
+pub fn rules_ask_in_the_layout()
+    ensures type_names { TypeNamesStayIn }
+    ensures imports { ImportsStayIn }
+    ensures access { TypeAccessStaysIn }
+    ensures references { ReferencesStayIn }
+{}
+
+/// Whatever the answers, the rules of members ask queries of names alone, from types of the layout: the field and the methods
+/// of a name in a type, and whether a member is accessible through a type. What they find are fields and methods of the layout.
+pub fn member_rules_ask_in_the_layout()
+    ensures fields { FieldsStayIn }
+    ensures methods { MethodsStayIn }
+    ensures access { MemberAccessStaysIn }
+{}
+
+/// In a layout whose rows name one another, the bodies around the header of a type are types, and so are those around what
+/// stands in its body.
+pub fn bodies_are_types()
+    ensures { BodiesAreTypes }
+{}

@@ -1,0 +1,97 @@
+//! The fields and methods of a name that a type has.
+
+ghost use Rattle.std.specs.Prelude.{◌≡◌, IfOk};
+ghost use Rattle.sg_reading.specs.Stop.{Reads, IsKnown};
+ghost use Rattle.jv_names.specs.Members.{find_ends, field, methods};
+ghost use Rattle.jv_names.specs.Replies.{reply_to};
+
+use crate::answers::answer_ends;
+use crate::counts::Counts;
+use crate::ends::Ends;
+use crate::kinds;
+use crate::meaning::Meaning;
+use crate::oracle::Oracle;
+use crate::queries::{ask, for_name, look_up};
+use jv_instance::JavaPred;
+use jv_layout::Layout;
+use jv_tree::NameId;
+use sg_base::Scope;
+use sg_query::Query;
+use sg_reading::{Known, Stop};
+use std::alloc::{AllocError, Global};
+
+/// The distinct ends by one query.
+#[tactic(auto, using(crate::proofs::Steps::name_steps))]
+fn find_ends(
+    alloc: Global,
+    l: &Layout,
+    o: &Oracle,
+    counts: Counts,
+    query: Query<JavaPred>,
+) -> Result<Ends, Stop<Query<JavaPred>>>
+    ensures { Reads (reply_to o.now) (find_ends l.now counts query) result }
+{
+    let answer = ask(o, query)?;
+    let ends = answer_ends(alloc, l, counts, answer)?;
+    Ok(ends)
+}
+
+/// The field of a name in a type as far as the replies tell it, or the query that has no reply.
+pub fn read_field(
+    l: &Layout,
+    o: &Oracle,
+    class: Scope,
+    name: NameId,
+) -> Result<Meaning, Stop<Query<JavaPred>>>
+    ensures { Reads (reply_to o.now) (field l.now class name) result }
+{
+    look_up(l, o, Counts::Fields, for_name(kinds::FIELDS, class, name))
+}
+
+/// The methods of a name in a type as far as the replies tell it, or the query that has no reply.
+pub fn read_methods(
+    alloc: Global,
+    l: &Layout,
+    o: &Oracle,
+    class: Scope,
+    name: NameId,
+) -> Result<Ends, Stop<Query<JavaPred>>>
+    ensures { Reads (reply_to o.now) (methods l.now class name) result }
+{
+    find_ends(
+        alloc,
+        l,
+        o,
+        Counts::Methods,
+        for_name(kinds::METHODS, class, name),
+    )
+}
+
+/// The field of a name that a type declares or inherits (JLS 8.3, 9.3): one, several, or none. It takes the time of the ends
+/// that the answer gives.
+#[tactic(auto, using(crate::proofs::Steps::name_steps))]
+pub fn find_field(
+    l: &Layout,
+    o: &Oracle,
+    class: Scope,
+    name: NameId,
+) -> Result<Known<Meaning, Query<JavaPred>>, AllocError>
+    ensures { IfOk result (IsKnown (reply_to o.now) (field l.now class name)) }
+{
+    Known::from_found(read_field(l, o, class, name))
+}
+
+/// The methods of a name that a type declares or inherits (JLS 8.4.8, 9.4.1), in rising order. It takes the time of the ends
+/// that the answer gives.
+#[tactic(auto, using(crate::proofs::Steps::name_steps))]
+pub fn find_methods(
+    alloc: Global,
+    l: &Layout,
+    o: &Oracle,
+    class: Scope,
+    name: NameId,
+) -> Result<Known<Ends, Query<JavaPred>>, AllocError>
+    ensures { IfOk result (IsKnown (reply_to o.now) (methods l.now class name)) }
+{
+    Known::from_found(read_methods(alloc, l, o, class, name))
+}

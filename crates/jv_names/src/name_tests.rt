@@ -1,0 +1,380 @@
+//! Names in the small folder, worked out by hand.
+
+use crate::kinds::{self, FILETYPE, MEMTYPE, OWNTYPE, SUBPKG};
+use crate::small_folder::{
+    A, B, C, JAVA, LANG, M, OBJECT, P, Q, STRING, X, Y, Z, ident, scope, small_graph, small_layout,
+};
+use crate::small_replies::{SmallFolder, put_reply, small_folder};
+use crate::{
+    Ends, Meaning, Oracle, Resolved, Spot, accessible, find_field, find_methods, java_kinds,
+    resolve_import, resolve_type, type_accessible,
+};
+use jv_instance::{JavaDatum, JavaPred, labels};
+use jv_layout::Layout;
+use jv_tree::{Import, Name, NameId};
+use sg_base::{Label, Path, Step};
+use sg_query::{Answer, Found, FoundPaths, Query};
+use sg_reading::Known;
+use std::alloc::Global;
+use std::fmt::Write;
+use std::test::Fail;
+
+fn name_of(alloc: Global, numbers: &[u32]) -> Result<Name, Fail> {
+    let mut ids = Vec::new(alloc);
+    for number in numbers {
+        ids.push(ident(*number))?;
+    }
+    Ok(Name { ids })
+}
+
+fn spot_of(alloc: Global, file: u32, bodies: &[u32]) -> Result<Spot, Fail> {
+    let mut inside = Vec::new(alloc);
+    for serial in bodies {
+        inside.push(scope(*serial))?;
+    }
+    Ok(Spot { file, inside })
+}
+
+// What was found, where no reply is missing.
+fn known<T>(found: Known<T, Query<JavaPred>>) -> Result<T, Fail> {
+    match found {
+        Known::Is(value) => Ok(value),
+        Known::Need(_) => Err("a reply is missing".into()),
+    }
+}
+
+// A meaning as a serial or a word.
+fn put_meaning(text: &mut String, meaning: Meaning) -> Result<(), Fail> {
+    match meaning {
+        Meaning::One(s) => write!(text, "{}", s.serial)?,
+        Meaning::Nothing => write!(text, "nothing")?,
+        Meaning::Ambiguous => write!(text, "ambiguous")?,
+        Meaning::TooMany => write!(text, "too many")?,
+    }
+    Ok(())
+}
+
+// A meaning, and the serials of the types of its parts.
+fn told(alloc: Global, resolved: &Resolved) -> Result<String, Fail> {
+    let mut text = String::new(alloc);
+    put_meaning(&mut text, resolved.meaning)?;
+    for s in resolved.types.as_slice() {
+        write!(text, " {}", s.serial)?;
+    }
+    Ok(text)
+}
+
+fn type_told(
+    alloc: Global,
+    small: &SmallFolder,
+    spot: &Spot,
+    numbers: &[u32],
+) -> Result<String, Fail> {
+    if spot.file >= 4 {
+        return Err("no such file".into());
+    }
+    let name = name_of(alloc, numbers)?;
+    let found = resolve_type(alloc, &small.layout, &small.oracle, spot, &name)?;
+    told(alloc, &known(found)?)
+}
+
+// Names of types by file, bodies and parts: what each means, and the types that its parts mean.
+const NAMES: [(u32, &[u32], &[u32], &str); 13] = [
+    (3, &[], &[A], "12 12"),
+    (3, &[], &[C], "nothing"),
+    (2, &[], &[C], "14 14"),
+    (3, &[], &[OBJECT], "10 10"),
+    (3, &[], &[M], "nothing"),
+    (3, &[15], &[M], "13 13"),
+    (2, &[13, 12], &[M], "13 13"),
+    (3, &[], &[B, M], "13 15 13"),
+    (2, &[], &[P, A, M], "13 12 13"),
+    (2, &[], &[JAVA, LANG, STRING], "11 11"),
+    (2, &[], &[JAVA, LANG], "nothing"),
+    (2, &[], &[P], "nothing"),
+    (2, &[], &[Q, A], "nothing"),
+];
+
+#[test]
+fn names_of_types_mean_types(rt: HostRuntime) -> Result<(), Fail> {
+    let small = small_folder(rt.alloc())?;
+    for (file, bodies, numbers, wanted) in NAMES {
+        let spot = spot_of(rt.alloc(), file, bodies)?;
+        let text = type_told(rt.alloc(), &small, &spot, numbers)?;
+        assert_eq!(rt; text.as_str(), wanted);
+    }
+    Ok(())
+}
+
+fn import_told(
+    alloc: Global,
+    small: &SmallFolder,
+    all: bool,
+    numbers: &[u32],
+) -> Result<String, Fail> {
+    let name = name_of(alloc, numbers)?;
+    let import = Import { name, all };
+    let found = resolve_import(alloc, &small.layout, &small.oracle, &import)?;
+    told(alloc, &known(found)?)
+}
+
+// Imports, on demand or of one name: what each means, and the types that its parts mean.
+const IMPORTS: [(bool, &[u32], &str); 7] = [
+    (false, &[P, A], "12 12"),
+    (false, &[P, A, M], "13 12 13"),
+    (false, &[Q, B, M], "nothing 15"),
+    (false, &[P], "nothing"),
+    (true, &[P], "4"),
+    (true, &[P, A], "12 12"),
+    (true, &[JAVA, LANG], "3"),
+];
+
+#[test]
+fn imports_start_at_the_root(rt: HostRuntime) -> Result<(), Fail> {
+    let small = small_folder(rt.alloc())?;
+    for (all, numbers, wanted) in IMPORTS {
+        let text = import_told(rt.alloc(), &small, all, numbers)?;
+        assert_eq!(rt; text.as_str(), wanted);
+    }
+    Ok(())
+}
+
+fn sees_type(small: &SmallFolder, spot: &Spot, serial: u32) -> Result<bool, Fail> {
+    if spot.file >= 4 {
+        return Err("no such file".into());
+    }
+    let found = type_accessible(&small.layout, &small.oracle, spot, scope(serial))?;
+    known(found)
+}
+
+// Types at places, by file and bodies, and whether they are accessible there.
+const TYPES: [(u32, &[u32], u32, bool); 6] = [
+    (3, &[], 12, true),
+    (3, &[], 14, false),
+    (2, &[], 14, true),
+    (3, &[], 13, false),
+    (2, &[], 13, true),
+    (3, &[15], 13, true),
+];
+
+#[test]
+fn types_are_accessible(rt: HostRuntime) -> Result<(), Fail> {
+    let small = small_folder(rt.alloc())?;
+    for (file, bodies, serial, wanted) in TYPES {
+        let spot = spot_of(rt.alloc(), file, bodies)?;
+        assert_eq!(rt;
+            sees_type(&small, &spot, serial)?,
+            wanted,
+            "{file}: {serial}"
+        );
+    }
+    Ok(())
+}
+
+fn reaches(
+    small: &SmallFolder,
+    spot: &Spot,
+    serial: u32,
+    through: Option<u32>,
+) -> Result<bool, Fail> {
+    if spot.file >= 4 {
+        return Err("no such file".into());
+    }
+    let receiver = match through {
+        Some(ty) => Some(scope(ty)),
+        None => None,
+    };
+    let found = accessible(&small.layout, &small.oracle, spot, scope(serial), receiver)?;
+    known(found)
+}
+
+// Members at places, by file, bodies and the type of the receiver, and whether they are accessible there.
+const MEMBERS: [(u32, &[u32], u32, Option<u32>, bool); 10] = [
+    (3, &[15], 21, None, true),
+    (3, &[15], 21, Some(15), true),
+    (3, &[15], 21, Some(12), false),
+    (3, &[], 21, None, false),
+    (2, &[], 20, None, true),
+    (3, &[15], 20, None, false),
+    (2, &[13, 12], 19, None, true),
+    (2, &[14], 19, None, false),
+    (3, &[], 22, Some(12), true),
+    (3, &[], 18, Some(12), true),
+];
+
+#[test]
+fn members_are_accessible(rt: HostRuntime) -> Result<(), Fail> {
+    let small = small_folder(rt.alloc())?;
+    for (file, bodies, serial, through, wanted) in MEMBERS {
+        let spot = spot_of(rt.alloc(), file, bodies)?;
+        assert_eq!(rt;
+            reaches(&small, &spot, serial, through)?,
+            wanted,
+            "{file}: {serial}"
+        );
+    }
+    Ok(())
+}
+
+fn field_told(alloc: Global, small: &SmallFolder, class: u32, number: u32) -> Result<String, Fail> {
+    let found = find_field(&small.layout, &small.oracle, scope(class), NameId(number))?;
+    let mut text = String::new(alloc);
+    put_meaning(&mut text, known(found)?)?;
+    Ok(text)
+}
+
+// The fields of a name in a type, by the type and the name: what each means.
+const FIELDS: [(u32, u32, &str); 6] = [
+    (12, X, "19"),
+    (12, Y, "20"),
+    (12, B, "nothing"),
+    (15, X, "nothing"),
+    (15, Y, "nothing"),
+    (15, Z, "21"),
+];
+
+#[test]
+fn fields_are_inherited(rt: HostRuntime) -> Result<(), Fail> {
+    let small = small_folder(rt.alloc())?;
+    for (class, number, wanted) in FIELDS {
+        let text = field_told(rt.alloc(), &small, class, number)?;
+        assert_eq!(rt; text.as_str(), wanted, "{class}: {number}");
+    }
+    Ok(())
+}
+
+fn methods_told(
+    alloc: Global,
+    small: &SmallFolder,
+    class: u32,
+    number: u32,
+) -> Result<String, Fail> {
+    let found = find_methods(
+        alloc,
+        &small.layout,
+        &small.oracle,
+        scope(class),
+        NameId(number),
+    )?;
+    let mut text = String::new(alloc);
+    match known(found)? {
+        Ends::Scopes(ends) => {
+            for s in ends.as_slice() {
+                write!(text, "{} ", s.serial)?;
+            }
+        }
+        Ends::TooMany => write!(text, "too many")?,
+    }
+    Ok(text)
+}
+
+// A path from `A` by a field's label.
+fn path_to(alloc: Global, serial: u32) -> Result<Found<JavaDatum>, Fail> {
+    let step = Step {
+        label: Label::new(labels::FIELD),
+        to: scope(serial),
+    };
+    let path = Path::new(scope(12), vec![in alloc; step]?);
+    let datum = JavaDatum::Member { name: NameId(X) };
+    Ok(Found { path, datum })
+}
+
+fn answer_of(alloc: Global, ends: &[u32]) -> Result<Answer<JavaDatum>, Fail> {
+    let mut found = Vec::new(alloc);
+    for serial in ends {
+        found.push(path_to(alloc, *serial)?)?;
+    }
+    Ok(Answer::Paths(FoundPaths::new(alloc, found)?))
+}
+
+// What `x` means as a field of `A` where this is the answer.
+fn field_by(alloc: Global, layout: Layout, answer: Answer<JavaDatum>) -> Result<String, Fail> {
+    let query = Query {
+        start: scope(12),
+        kind: kinds::FIELDS,
+        pred: JavaPred::Named(NameId(X)),
+    };
+    let mut oracle = Oracle::new(alloc);
+    oracle.put(query, answer)?;
+    field_told(alloc, &SmallFolder { layout, oracle }, 12, X)
+}
+
+// Ends of paths by a field's label from `A`, of which 22 is a method and 40 is nowhere: what the field means.
+const ENDS: [(&[u32], &str); 5] = [
+    (&[], "nothing"),
+    (&[19], "19"),
+    (&[20, 20], "20"),
+    (&[19, 20], "ambiguous"),
+    (&[22, 40], "nothing"),
+];
+
+#[test]
+fn answers_that_are_made_up_have_a_meaning(rt: HostRuntime) -> Result<(), Fail> {
+    for (ends, wanted) in ENDS {
+        let layout = small_layout(rt.alloc())?;
+        let answer = answer_of(rt.alloc(), ends)?;
+        let text = field_by(rt.alloc(), layout, answer)?;
+        assert_eq!(rt; text.as_str(), wanted);
+    }
+    let layout = small_layout(rt.alloc())?;
+    let text = field_by(rt.alloc(), layout, Answer::TooMany)?;
+    assert_eq!(rt; text.as_str(), "too many");
+    Ok(())
+}
+
+// The methods of a name in a type, by the type and the name.
+const METHODS: [(u32, u32, &str); 3] = [(12, M, "22 "), (15, M, "22 "), (15, X, "")];
+
+#[test]
+fn methods_are_inherited(rt: HostRuntime) -> Result<(), Fail> {
+    let small = small_folder(rt.alloc())?;
+    for (class, number, wanted) in METHODS {
+        let text = methods_told(rt.alloc(), &small, class, number)?;
+        assert_eq!(rt; text.as_str(), wanted, "{class}: {number}");
+    }
+    Ok(())
+}
+
+// The query that `p.A` in the body of `B` comes to, and whether it is the wanted one.
+fn asks_for(
+    alloc: Global,
+    layout: &Layout,
+    oracle: &Oracle,
+    wanted: &Query<JavaPred>,
+) -> Result<bool, Fail> {
+    let spot = spot_of(alloc, 3, &[15])?;
+    if spot.file >= 4 {
+        return Err("no such file".into());
+    }
+    let name = name_of(alloc, &[P, A])?;
+    match resolve_type(alloc, layout, oracle, &spot, &name)? {
+        Known::Is(_) => Ok(false),
+        Known::Need(query) => Ok(query == *wanted),
+    }
+}
+
+// The queries that `p.A` asks in the body of `B`, in turn, by kind, start and name.
+const ASKED: [(u8, u32, u32); 4] = [
+    (MEMTYPE, 15, P),
+    (FILETYPE, 9, P),
+    (SUBPKG, 0, P),
+    (OWNTYPE, 4, A),
+];
+
+#[test]
+fn missing_replies_are_named_in_turn(rt: HostRuntime) -> Result<(), Fail> {
+    let layout = small_layout(rt.alloc())?;
+    let graph = small_graph(rt.alloc())?;
+    let table = java_kinds(rt.alloc())?;
+    let mut oracle = Oracle::new(rt.alloc());
+    for (kind, start, number) in ASKED {
+        let query = Query {
+            start: scope(start),
+            kind,
+            pred: JavaPred::Named(NameId(number)),
+        };
+        assert!(rt; asks_for(rt.alloc(), &layout, &oracle, &query)?, "{kind}");
+        put_reply(rt.alloc(), &graph, &table, &mut oracle, query)?;
+    }
+    Ok(())
+}
