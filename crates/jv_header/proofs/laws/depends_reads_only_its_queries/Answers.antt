@@ -1,0 +1,7 @@
+use Rattle.sg_reading.proofs.Readings.{reads_only}
+use Rattle.jv_names.specs.Law.{InGraph}
+use Rattle.jv_header.specs.Depends.{depends_rule}
+use Rattle.jv_header.proofs.laws.depends_reads_only_its_queries.Goals as goal
+
+pub returns : goal.returns
+returns c = λ l names ty name row g h. reads_only (InGraph g) (InGraph h) (depends_rule l names ty name row)
