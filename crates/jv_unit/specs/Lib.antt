@@ -1,0 +1,5 @@
+pub mod Folder
+pub mod Kept
+pub mod Paths
+pub mod Plans
+pub mod Trees
