@@ -8,6 +8,8 @@ mod check;
 mod command;
 mod flat_report;
 pub mod laws;
+#[cfg(test)]
+mod layout_tests;
 mod line;
 mod listed;
 mod place;

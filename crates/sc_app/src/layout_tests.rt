@@ -1,0 +1,543 @@
+//! The layouts of whole folders, from their sources: the edges at the opening, and what the units hold. The texts are written
+//! by hand from the section on the graph in `docs/JAVA-PROFILE.md`; the prelude's own files, types and members are left out of
+//! them.
+
+use jv_instance::JavaDatum;
+use jv_layout::{Layout, Place, is_folder, layout, prelude};
+use jv_lex::lex;
+use jv_parse::parse;
+use jv_tree::{Names, Unit};
+use sg_base::Scope;
+use sg_state::Opening;
+use std::alloc::{AllocError, Global};
+use std::fmt::Write;
+use std::test::Fail;
+
+/// The labels by their numbers.
+const LABELS: [&str; 11] = [
+    "PKG", "TYPE", "SELF", "SIMP", "PKGOF", "ODI", "EXT", "FIELD", "METH", "CTOR", "SIG",
+];
+
+/// The word for a label.
+fn word_of(label: u8) -> &'static str {
+    LABELS.get(label as usize).copied().unwrap_or("?")
+}
+
+/// Files, in the order of their paths, each with its text.
+type Files<'a> = &'a [(&'a str, &'a str)];
+
+/// The tree of a source.
+fn parsed(alloc: Global, source: &str, names: &mut Names) -> Result<Unit, Fail> {
+    if source.len() > 1_048_576 {
+        return Err(Fail::new("a source is too long"));
+    }
+    let tokens = lex(alloc, source.as_bytes())?;
+    if tokens.len() > 1_048_576 || names.len() > 1_048_576 {
+        return Err(Fail::new("too many names"));
+    }
+    Ok(parse(alloc, source, &tokens, names)?)
+}
+
+/// The trees of the prelude's files, and then of these.
+fn trees(alloc: Global, files: Files, names: &mut Names) -> Result<Vec<Unit>, Fail> {
+    let mut units = Vec::new(alloc);
+    units.push(parsed(alloc, prelude::OBJECT, names)?)?;
+    units.push(parsed(alloc, prelude::STRING, names)?)?;
+    for (_, text) in files {
+        units.push(parsed(alloc, text, names)?)?;
+    }
+    Ok(units)
+}
+
+/// A layout with what its scopes are printed by.
+#[derive(Clone, Copy)]
+struct Folder<'a> {
+    alloc: Global,
+    files: Files<'a>,
+    names: &'a Names,
+    layout: &'a Layout,
+}
+
+impl Folder<'_> {
+    /// Whether a scope is one of the prelude's files, types, members and signatures.
+    fn is_preludes(&self, s: Scope) -> bool {
+        match self.layout.place(s) {
+            Place::File(_) | Place::Ty(_) | Place::Member(_) | Place::Signature(_) => {
+                self.layout.file_of(s) < 2
+            }
+            _ => false,
+        }
+    }
+
+    /// The printed name of a scope; a file is printed as its path.
+    fn title(&self, s: Scope) -> Result<String, AllocError> {
+        if let Place::File(file) = self.layout.place(s) {
+            if let Some((path, _)) = self.files.get((file as usize).saturating_sub(2)) {
+                return String::from_str(self.alloc, path);
+            }
+        }
+        self.layout.title(self.alloc, self.names, s)
+    }
+
+    /// Adds the edges with a label, a line for each.
+    fn add_edges(
+        &self,
+        text: &mut String,
+        opening: &Opening<JavaDatum>,
+        label: u8,
+    ) -> Result<(), Fail> {
+        for (from, by, to) in &opening.edges {
+            if by.number() == label && !self.is_preludes(*from) && !self.is_preludes(*to) {
+                let from = self.title(*from)?;
+                let to = self.title(*to)?;
+                writeln!(text, "{} {} {}", from.as_str(), word_of(label), to.as_str())?;
+            }
+        }
+        Ok(())
+    }
+
+    /// Adds the rows that units hold, a line for each.
+    fn add_rows(&self, text: &mut String, opening: &Opening<JavaDatum>) -> Result<(), Fail> {
+        for (unit, scope, label) in &opening.row_holds {
+            if !self.is_preludes(*scope) {
+                let title = self.title(*scope)?;
+                writeln!(
+                    text,
+                    "{}: {} {}",
+                    *unit,
+                    title.as_str(),
+                    word_of(label.number())
+                )?;
+            }
+        }
+        Ok(())
+    }
+
+    /// How many signatures a unit holds, the prelude's left out.
+    fn signatures(&self, opening: &Opening<JavaDatum>, unit: u32) -> usize {
+        opening
+            .datum_holds
+            .iter()
+            .filter(|(holder, scope)| *holder == unit && !self.is_preludes(*scope))
+            .count()
+    }
+
+    /// The edges by label, the rows that units hold, and how many signatures each unit holds that holds one.
+    fn text(&self) -> Result<String, Fail> {
+        let opening = self.layout.opening(self.alloc)?;
+        let mut text = String::new(self.alloc);
+        for label in 0..11u8 {
+            self.add_edges(&mut text, &opening, label)?;
+        }
+        self.add_rows(&mut text, &opening)?;
+        for unit in 0..opening.units {
+            let count = self.signatures(&opening, unit);
+            if count > 0 {
+                writeln!(text, "{}: {} signatures", unit, count)?;
+            }
+        }
+        Ok(text)
+    }
+}
+
+/// The opening of the layout of these files, as a text.
+fn opening_text(alloc: Global, files: Files) -> Result<String, Fail> {
+    let mut names = Names::new(alloc);
+    let units = trees(alloc, files, &mut names)?;
+    if !is_folder(&units) {
+        return Err(Fail::new("too many names are declared"));
+    }
+    let layout = layout(alloc, &names, &units)?;
+    let folder = Folder {
+        alloc,
+        files,
+        names: &names,
+        layout: &layout,
+    };
+    folder.text()
+}
+
+const CLASS_ABOVE: &str = "\
+(root) PKG java
+java PKG java.lang
+(unnamed) TYPE A
+(unnamed) TYPE B
+A.java SELF A
+B.java SELF B
+A.java PKGOF (unnamed)
+B.java PKGOF (unnamed)
+A.java ODI java.lang
+B.java ODI java.lang
+A CTOR A#new
+B CTOR B#new
+A#new SIG A#new!
+B#new SIG B#new!
+2: A.java SIMP
+2: A.java ODI
+3: B.java SIMP
+3: B.java ODI
+6: A EXT
+7: B EXT
+6: 1 signatures
+7: 1 signatures
+";
+
+#[test]
+fn a_class_extends_one_of_another_file(rt: HostRuntime) -> Result<(), Fail> {
+    let files = [("A.java", "class A extends B {}"), ("B.java", "class B {}")];
+    let found = opening_text(rt.alloc(), &files)?;
+    assert_eq!(rt; found.as_str(), CLASS_ABOVE);
+    Ok(())
+}
+
+const MEMBER_TYPE: &str = "\
+(root) PKG java
+java PKG java.lang
+(unnamed) TYPE A
+(unnamed) TYPE B
+B TYPE B.C
+A.java SELF A
+B.java SELF B
+A.java PKGOF (unnamed)
+B.java PKGOF (unnamed)
+A.java ODI java.lang
+B.java ODI java.lang
+A CTOR A#new
+B CTOR B#new
+B.C CTOR B.C#new
+A#new SIG A#new!
+B#new SIG B#new!
+B.C#new SIG B.C#new!
+2: A.java SIMP
+2: A.java ODI
+3: B.java SIMP
+3: B.java ODI
+6: A EXT
+7: B EXT
+8: B.C EXT
+6: 1 signatures
+7: 1 signatures
+8: 1 signatures
+";
+
+#[test]
+fn a_member_type_is_declared_by_its_type(rt: HostRuntime) -> Result<(), Fail> {
+    let files = [
+        ("A.java", "class A extends B.C {}"),
+        ("B.java", "class B extends A { static class C {} }"),
+    ];
+    let found = opening_text(rt.alloc(), &files)?;
+    assert_eq!(rt; found.as_str(), MEMBER_TYPE);
+    Ok(())
+}
+
+const IMPORTS_ON_DEMAND: &str = "\
+(root) PKG java
+java PKG java.lang
+(root) PKG p
+(root) PKG q
+(unnamed) TYPE A
+p TYPE p.T
+q TYPE q.T
+A.java SELF A
+p/T.java SELF p.T
+q/T.java SELF q.T
+A.java PKGOF (unnamed)
+p/T.java PKGOF p
+q/T.java PKGOF q
+A.java ODI java.lang
+p/T.java ODI java.lang
+q/T.java ODI java.lang
+A FIELD A#t
+A CTOR A#new
+p.T CTOR p.T#new
+q.T CTOR q.T#new
+A#new SIG A#new!
+A#t SIG A#t!
+p.T#new SIG p.T#new!
+q.T#new SIG q.T#new!
+2: A.java SIMP
+2: A.java ODI
+3: p/T.java SIMP
+3: p/T.java ODI
+4: q/T.java SIMP
+4: q/T.java ODI
+7: A EXT
+8: p.T EXT
+9: q.T EXT
+7: 2 signatures
+8: 1 signatures
+9: 1 signatures
+";
+
+#[test]
+fn imports_on_demand_are_no_edges_yet(rt: HostRuntime) -> Result<(), Fail> {
+    let files = [
+        ("A.java", "import p.*; import q.*; class A { T t; }"),
+        ("p/T.java", "package p; public class T {}"),
+        ("q/T.java", "package q; public class T {}"),
+    ];
+    let found = opening_text(rt.alloc(), &files)?;
+    assert_eq!(rt; found.as_str(), IMPORTS_ON_DEMAND);
+    Ok(())
+}
+
+const SINGLE_IMPORTS: &str = "\
+(root) PKG java
+java PKG java.lang
+(root) PKG p
+(root) PKG q
+(root) PKG r
+p TYPE p.A
+p TYPE p.T
+q TYPE q.T
+r TYPE r.B
+p/A.java SELF p.A
+p/T.java SELF p.T
+q/T.java SELF q.T
+r/B.java SELF r.B
+p/A.java PKGOF p
+p/T.java PKGOF p
+q/T.java PKGOF q
+r/B.java PKGOF r
+p/A.java ODI java.lang
+p/T.java ODI java.lang
+q/T.java ODI java.lang
+r/B.java ODI java.lang
+q.T FIELD q.T#n
+p.A METH p.A#f()
+p.A CTOR p.A#new
+p.T CTOR p.T#new
+q.T CTOR q.T#new
+r.B CTOR r.B#new
+p.A#new SIG p.A#new!
+p.A#f() SIG p.A#f()!
+p.T#new SIG p.T#new!
+q.T#new SIG q.T#new!
+q.T#n SIG q.T#n!
+r.B#new SIG r.B#new!
+2: p/A.java SIMP
+2: p/A.java ODI
+3: p/T.java SIMP
+3: p/T.java ODI
+4: q/T.java SIMP
+4: q/T.java ODI
+5: r/B.java SIMP
+5: r/B.java ODI
+8: p.A EXT
+9: p.T EXT
+10: q.T EXT
+11: r.B EXT
+8: 2 signatures
+9: 1 signatures
+10: 2 signatures
+11: 1 signatures
+";
+
+#[test]
+fn single_imports_are_no_edges_yet(rt: HostRuntime) -> Result<(), Fail> {
+    let files = [
+        (
+            "p/A.java",
+            "package p; import q.T; class A { int f(T t) { return t.n; } }",
+        ),
+        ("p/T.java", "package p; public class T {}"),
+        ("q/T.java", "package q; public class T { public int n; }"),
+        ("r/B.java", "package r; import p.T; import q.T; class B {}"),
+    ];
+    let found = opening_text(rt.alloc(), &files)?;
+    assert_eq!(rt; found.as_str(), SINGLE_IMPORTS);
+    Ok(())
+}
+
+const INNER_CLASS: &str = "\
+(root) PKG java
+java PKG java.lang
+(unnamed) TYPE S
+(unnamed) TYPE A
+A TYPE A.I
+A.java SELF S
+A.java SELF A
+A.java PKGOF (unnamed)
+A.java ODI java.lang
+S FIELD S#x
+A FIELD A#x
+A.I METH A.I#f()
+S CTOR S#new
+A CTOR A#new
+A.I CTOR A.I#new
+S#new SIG S#new!
+S#x SIG S#x!
+A#new SIG A#new!
+A#x SIG A#x!
+A.I#new SIG A.I#new!
+A.I#f() SIG A.I#f()!
+2: A.java SIMP
+2: A.java ODI
+5: S EXT
+6: A EXT
+7: A.I EXT
+5: 2 signatures
+6: 2 signatures
+7: 2 signatures
+";
+
+#[test]
+fn fields_of_one_name_stand_in_several_types(rt: HostRuntime) -> Result<(), Fail> {
+    let files = [(
+        "A.java",
+        "class S { private boolean x; } class A { int x; class I extends S { int f() { return x; } } }",
+    )];
+    let found = opening_text(rt.alloc(), &files)?;
+    assert_eq!(rt; found.as_str(), INNER_CLASS);
+    Ok(())
+}
+
+const MAIN_SOURCE: &str = "\
+package app;
+import shapes.*;
+import shapes.util.Text;
+public class Main {
+  static int total(Shape[] all) {
+    int sum = 0;
+    for (int i = 0; i < all.length; i++) { sum += all[i].area(); }
+    return sum;
+  }
+  static String show(Shape s) { return Text.join(\"area \", s.area()) + '\\n'; }
+  public static void main(String[] args) {
+    Shape[] all = { new Square(2), new Square(3) };
+    String out = show(all[0]) + total(all);
+  }
+}
+";
+
+const SHAPE_SOURCE: &str = "\
+package shapes;
+public interface Shape { int SIDES = 4; int area(); }
+";
+
+const SQUARE_SOURCE: &str = "\
+package shapes;
+public class Square implements Shape {
+  private final int side;
+  public Square(int side) { this.side = side; }
+  public int area() { return new Corner().twice() / 2 * side; }
+  class Corner { int twice() { return side + side; } }
+  public String toString() { return \"square \" + side; }
+}
+";
+
+const TEXT_SOURCE: &str = "\
+package shapes.util;
+public final class Text {
+  public static String join(String a, int b) { return a.concat(\"\" + b); }
+}
+";
+
+const SHAPES: &str = "\
+(root) PKG app
+(root) PKG java
+java PKG java.lang
+(root) PKG shapes
+shapes PKG shapes.util
+app TYPE app.Main
+shapes TYPE shapes.Shape
+shapes TYPE shapes.Square
+shapes.Square TYPE shapes.Square.Corner
+shapes.util TYPE shapes.util.Text
+app/Main.java SELF app.Main
+shapes/Shape.java SELF shapes.Shape
+shapes/Square.java SELF shapes.Square
+shapes/util/Text.java SELF shapes.util.Text
+app/Main.java PKGOF app
+shapes/Shape.java PKGOF shapes
+shapes/Square.java PKGOF shapes
+shapes/util/Text.java PKGOF shapes.util
+app/Main.java ODI java.lang
+shapes/Shape.java ODI java.lang
+shapes/Square.java ODI java.lang
+shapes/util/Text.java ODI java.lang
+shapes.Shape FIELD shapes.Shape#SIDES
+shapes.Square FIELD shapes.Square#side
+app.Main METH app.Main#total()
+app.Main METH app.Main#show()
+app.Main METH app.Main#main()
+shapes.Shape METH shapes.Shape#area()
+shapes.Square METH shapes.Square#area()
+shapes.Square.Corner METH shapes.Square.Corner#twice()
+shapes.Square METH shapes.Square#toString()
+shapes.util.Text METH shapes.util.Text#join()
+app.Main CTOR app.Main#new
+shapes.Square CTOR shapes.Square#new
+shapes.Square.Corner CTOR shapes.Square.Corner#new
+shapes.util.Text CTOR shapes.util.Text#new
+app.Main#new SIG app.Main#new!
+app.Main#total() SIG app.Main#total()!
+app.Main#show() SIG app.Main#show()!
+app.Main#main() SIG app.Main#main()!
+shapes.Shape#SIDES SIG shapes.Shape#SIDES!
+shapes.Shape#area() SIG shapes.Shape#area()!
+shapes.Square#side SIG shapes.Square#side!
+shapes.Square#new SIG shapes.Square#new!
+shapes.Square#area() SIG shapes.Square#area()!
+shapes.Square.Corner#new SIG shapes.Square.Corner#new!
+shapes.Square.Corner#twice() SIG shapes.Square.Corner#twice()!
+shapes.Square#toString() SIG shapes.Square#toString()!
+shapes.util.Text#new SIG shapes.util.Text#new!
+shapes.util.Text#join() SIG shapes.util.Text#join()!
+2: app/Main.java SIMP
+2: app/Main.java ODI
+3: shapes/Shape.java SIMP
+3: shapes/Shape.java ODI
+4: shapes/Square.java SIMP
+4: shapes/Square.java ODI
+5: shapes/util/Text.java SIMP
+5: shapes/util/Text.java ODI
+8: app.Main EXT
+9: shapes.Shape EXT
+10: shapes.Square EXT
+11: shapes.Square.Corner EXT
+12: shapes.util.Text EXT
+8: 4 signatures
+9: 2 signatures
+10: 4 signatures
+11: 2 signatures
+12: 2 signatures
+";
+
+#[test]
+fn packages_files_types_and_members_stand_in_order(rt: HostRuntime) -> Result<(), Fail> {
+    let files = [
+        ("app/Main.java", MAIN_SOURCE),
+        ("shapes/Shape.java", SHAPE_SOURCE),
+        ("shapes/Square.java", SQUARE_SOURCE),
+        ("shapes/util/Text.java", TEXT_SOURCE),
+    ];
+    let found = opening_text(rt.alloc(), &files)?;
+    assert_eq!(rt; found.as_str(), SHAPES);
+    Ok(())
+}
+
+const SECOND_STRING: &str = "\
+(root) PKG java
+java PKG java.lang
+java/lang/String.java PKGOF java.lang
+java/lang/String.java ODI java.lang
+java.lang.String CTOR java.lang.String#new
+java.lang.String#new SIG java.lang.String#new!
+2: java/lang/String.java SIMP
+2: java/lang/String.java ODI
+5: java.lang.String EXT
+5: 1 signatures
+";
+
+#[test]
+fn a_second_string_has_no_edge(rt: HostRuntime) -> Result<(), Fail> {
+    let files = [(
+        "java/lang/String.java",
+        "package java.lang; public final class String {}",
+    )];
+    let found = opening_text(rt.alloc(), &files)?;
+    assert_eq!(rt; found.as_str(), SECOND_STRING);
+    Ok(())
+}
