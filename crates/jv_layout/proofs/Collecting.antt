@@ -1,11 +1,11 @@
 -- How many types a declaration gives, and what comes first in a body.
-use Rattle.std.proofs.Common.{◌≡◌, ℕ, ◌+◌, ◌<◌, Option, Some, None, List, [], ◌∷◌, ◌++◌, length, map, drop, get_or, refl, sym, ap, ◌∙◌, arith, length-append, add-one}
+use Rattle.std.proofs.Common.{◌≡◌, ℕ, ◌+◌, ◌<◌, Option, Some, None, List, [], ◌∷◌, length, map, drop, get_or, refl, ap, arith, length-append, add-one}
 use Rattle.std.proofs.Math.Seq.{drop-cons}
 use Rattle.jv_tree.specs.declared.declaration.TypeDecl.{TypeDecl}
 use Rattle.jv_tree.specs.declared.declaration.Member.TheVariants.{Nested}
 use Rattle.jv_tree.specs.TypeTree.{ids_of}
 use Rattle.jv_tree.proofs.Rows.{members_made}
-use Rattle.jv_tree.specs.DeclTree.{TypeDeclTree, type_decl, MemberTree, nested, field, method, ctor, MemberTrees, no_members, members, member_tree, type_decl_tree}
+use Rattle.jv_tree.specs.DeclTree.{TypeDeclTree, type_decl, nested, field, method, ctor, MemberTrees, no_members, members, member_tree, type_decl_tree}
 use Rattle.jv_tree.specs.declared.names.NameId.{NameId}
 use Rattle.jv_layout.specs.declared.rows.MemberRow.{MemberRow}
 use Rattle.jv_layout.specs.declared.rows.MemberKind.{MemberKind}

@@ -1,5 +1,8 @@
 pub mod Collecting
 pub mod Putting
+pub mod Sorting
+pub mod Stepping
+pub mod Behind
 pub mod Looping
 pub mod Keying
 pub mod Declaring

@@ -1,5 +1,5 @@
 -- The rows that trees give name one another, and are few.
-use Rattle.std.proofs.Common.{◌≡◌, ℕ, zero, suc, ◌+◌, ◌<◌, ◌≤◌, ◌^◌, Bool, true, false, ◌||◌, Option, Some, None, List, [], ◌∷◌, ◌++◌, length, map, get_or, refl, sym, ap, ◌∙◌, subst, cond, if◌then◌else◌, arith, length-append}
+use Rattle.std.proofs.Common.{◌≡◌, ℕ, zero, suc, ◌+◌, ◌<◌, ◌≤◌, ◌^◌, Bool, true, false, ◌||◌, Option, Some, None, List, [], ◌∷◌, length, map, refl, sym, ap, ◌∙◌, cond, if◌then◌else◌, arith, length-append}
 use Rattle.std.specs.Prelude.{All}
 use Rattle.std.specs.List.{sum_by, flat_map, fold, position_from, range_with_len}
 use Rattle.std.specs.Ordering.{match_ordering}
@@ -11,10 +11,9 @@ use Rattle.std.proofs.lemmas.List.Sums.{sum_by-cons}
 use Rattle.std.proofs.lemmas.List.Elements.{All-nil, All-cons, All-append, All-map, All-weaker}
 use Rattle.sg_state.specs.Held.{put}
 use Rattle.sg_state.proofs.Beginning.{map_twice}
-use Rattle.jv_tree.specs.declared.name.Ident.{Ident}
 use Rattle.jv_tree.specs.declared.names.NameId.{NameId}
 use Rattle.jv_tree.specs.declared.declaration.Unit.{Unit as File}
-use Rattle.jv_tree.specs.DeclTree.{TypeDeclTree, type_decl, MemberTree, nested, field, method, ctor, MemberTrees, no_members, members, UnitTree, tree_of}
+use Rattle.jv_tree.specs.DeclTree.{TypeDeclTree, type_decl, nested, field, method, ctor, MemberTrees, no_members, members, UnitTree, tree_of}
 use Rattle.jv_layout.specs.declared.rows.Modifiers.{Modifiers}
 use Rattle.jv_layout.specs.declared.packages.Prefix.{Prefix}
 use Rattle.jv_layout.specs.declared.rows.PackageRow.{PackageRow}
@@ -23,9 +22,9 @@ use Rattle.jv_layout.specs.declared.rows.MemberRow.{MemberRow}
 use Rattle.jv_layout.specs.declared.rows.MemberKind.TheVariants.{Method, Ctor, DefaultCtor}
 use Rattle.jv_layout.specs.Folder.{LayoutOf, layout_of, modifiers_of, no_modifiers, clause_of, prefixes, path_cmp, paths_of, package_row, file_row, decl_types, body_types, decl_count, body_count, file_types, file_count, types_from, type_count, has_ctor, default_ctor, field_row, decl_members, body_members, file_members, members_from}
 use Rattle.jv_layout.specs.Scopes.{scope_count}
-use Rattle.jv_layout.specs.Sizes.{decl_names, body_names, unit_names, names_declared, IsFolder}
+use Rattle.jv_layout.specs.Sizes.{decl_names, body_names, unit_names, IsFolder}
 use Rattle.jv_layout.specs.Linked.{IsBelow, IsLinked}
-use Rattle.jv_layout.specs.Paths.{clause_at, no_unit, path_at}
+use Rattle.jv_layout.specs.Paths.{clause_at, path_at}
 use Rattle.jv_layout.specs.Rows.{layout_by}
 use Rattle.jv_layout.proofs.Collecting.{length-file_types, row_of}
 

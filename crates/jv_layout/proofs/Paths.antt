@@ -1,22 +1,18 @@
 -- The order of dotted names, and packages in it.
-use Rattle.std.proofs.Common.{◌≡◌, ℕ, zero, suc, ◌+◌, ◌<◌, ◌≤◌, ◌==◌, Bool, true, false, List, [], ◌∷◌, ◌++◌, inl, inr, length, map, take, drop, get_or, Some, None, Ok, Err, refl, sym, ap, ◌∙◌, subst, cond, zero-add, append-nil, arith}
+use Rattle.std.proofs.Common.{◌≡◌, ℕ, zero, suc, ◌+◌, ◌<◌, ◌≤◌, ◌==◌, Bool, true, false, List, [], ◌∷◌, ◌++◌, inl, inr, length, map, take, drop, get_or, Some, None, Ok, Err, refl, ap, ◌∙◌, subst, cond, zero-add, arith}
 use Rattle.std.proofs.lemmas.Bool.{cases_lt}
-use Rattle.std.specs.List.{position_from, flat_map, fold}
-use Rattle.std.proofs.lemmas.List.{take_more}
-use Rattle.std.proofs.lemmas.List.Concat.{flat_map-append}
-use Rattle.std.proofs.lemmas.List.FromFn.{map-range_with_len_more}
-use Rattle.jv_layout.specs.Skeleton.{below}
+use Rattle.std.specs.List.{position_from}
 use Rattle.std.specs.Cmp.{IsTotalOrder, nat_cmp_total, on_total}
 use Rattle.std.specs.Cmp.Lexicographic.{lists_total}
 use Rattle.std.specs.Ordering.{is_eq}
 use Rattle.std.specs.declared.cmp.Ordering.{Ordering}
-use Rattle.std.specs.declared.cmp.Ordering.TheVariants.{Less, Equal, Greater}
+use Rattle.std.specs.declared.cmp.Ordering.TheVariants.{Less, Greater}
 use Rattle.sg_base.specs.List.{IsRising}
 use Rattle.sg_state.specs.Held.{put}
 use Rattle.jv_tree.specs.declared.name.Ident.{Ident}
 use Rattle.jv_layout.specs.Folder.{path_cmp, parts_of, numbers_of}
 use Rattle.jv_layout.specs.Paths.{IsSearched}
-use Rattle.jv_layout.proofs.Putting.{put_there, put_at, Rising-put, greater_before, less_behind, equal_before}
+use Rattle.jv_layout.proofs.Putting.{put_there, put_at, greater_before, less_behind}
 
 pub path_total : (names : List (List ℕ)) → IsTotalOrder (path_cmp names)
 path_total names = on_total (parts_of names) (lists_total (lists_total nat_cmp_total))
@@ -76,18 +72,3 @@ module _ {X : Type 0} (R : X → X → Ordering) where
 
   pub no_place : (xs : List X) (x : X) (i : ℕ) → IsSearched R xs x (Err i) → position_from (λ q. is_eq (R x q)) 0 xs ≡ None
   no_place xs x i s = position_none (λ q. is_eq (R x q)) xs 0 (λ k d h. elim (cases_lt k i) [ inl a ↦ ap is_eq (s.1 k d a) | inr b ↦ ap is_eq (s.2 k d b h) ])
-
-module _ {A B : Type 0} (op : B → A → B) where
-  pub fold_push : (a : B) (xs : List A) (x : A) → fold op a (xs ++ x ∷ []) ≡ op (fold op a xs) x
-  fold_push a [] x = refl
-  fold_push a (y ∷ ys) x = fold_push (op a y) ys x
-
-  pub fold_join : (a : B) (xs ys : List A) → fold op a (xs ++ ys) ≡ fold op (fold op a xs) ys
-  fold_join a [] ys = refl
-  fold_join a (x ∷ xs) ys = fold_join (op a x) xs ys
-
-  pub fold_below : (a : B) (g : ℕ → A) (n : ℕ) → fold op a (map g (below (n + 1))) ≡ op (fold op a (map g (below n))) (g n)
-  fold_below a g n = ap (fold op a) (map-range_with_len_more g 0 n n (omega arith)) ∙ fold_push a (map g (below n)) (g n)
-
-  pub fold_flat : {U : Type 0} (a : B) (g : U → List A) (us : List U) (i : ℕ) (d : U) → i < length us → fold op a (flat_map g (take (i + 1) us)) ≡ fold op (fold op a (flat_map g (take i us))) (g (get_or us i d))
-  fold_flat a g us i d h = ap (fold op a) (ap (flat_map g) (take_more us i d h) ∙ (flat_map-append g (take i us) (get_or us i d ∷ []) ∙ ap (λ (z : List A). flat_map g (take i us) ++ z) (append-nil (g (get_or us i d))))) ∙ fold_join a (flat_map g (take i us)) (g (get_or us i d))

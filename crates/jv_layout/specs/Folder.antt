@@ -1,5 +1,5 @@
 -- What the trees of a folder declare: its packages, files, types and members, in the order of their scopes.
-use Rattle.std.specs.Prelude.{ℕ, ◌+◌, ◌-◌, ◌==◌, ◌||◌, nat_lt, Bool, true, false, not, List, [], ◌∷◌, ◌++◌, length, map, take, fold, Option, None, Some, if◌then◌else◌}
+use Rattle.std.specs.Prelude.{ℕ, ◌+◌, ◌-◌, ◌==◌, ◌||◌, nat_lt, Bool, true, false, List, [], ◌∷◌, ◌++◌, length, map, take, fold, Option, None, Some, if◌then◌else◌}
 use Rattle.std.specs.List.{list_any, flat_map, position_from, range_with_len, slice_index_or}
 use Rattle.std.specs.Ordering.{is_eq, nat_cmp, on}
 use Rattle.std.specs.Cmp.Lexicographic.{slice_cmp}
@@ -8,12 +8,11 @@ use Rattle.sg_state.specs.Held.{put}
 use Rattle.jv_tree.specs.declared.name.Ident.{Ident}
 use Rattle.jv_tree.specs.declared.names.NameId.{NameId}
 use Rattle.jv_tree.specs.StmtTree.{VarTree}
-use Rattle.jv_tree.specs.DeclTree.{TypeDeclTree, type_decl, MemberTree, nested, field, method, ctor, MemberTrees, no_members, members, UnitTree}
+use Rattle.jv_tree.specs.DeclTree.{TypeDeclTree, type_decl, nested, field, method, ctor, MemberTrees, no_members, members, UnitTree}
 use Rattle.jv_layout.specs.declared.rows.Modifiers.{Modifiers}
 use Rattle.jv_layout.specs.declared.rows.PackageRow.{PackageRow}
 use Rattle.jv_layout.specs.declared.rows.TypeRow.{TypeRow}
 use Rattle.jv_layout.specs.declared.rows.MemberRow.{MemberRow}
-use Rattle.jv_layout.specs.declared.rows.MemberKind.{MemberKind}
 use Rattle.jv_layout.specs.declared.rows.MemberKind.TheVariants.{Field, Method, Ctor, DefaultCtor}
 
 -- what contracts see of a layout: its packages, the package of each file (none where it is the unnamed one), its types and its members

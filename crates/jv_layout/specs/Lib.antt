@@ -9,6 +9,7 @@ pub mod Sizes
 pub mod Linked
 pub mod Tables
 pub mod Paths
+pub mod Steps
 pub mod Rows
 pub mod Laws
 pub mod Examples

@@ -1,5 +1,5 @@
 -- Rows that name one another: each number in a row is that of a row.
-use Rattle.std.specs.Prelude.{ℕ, ◌<◌, List, length, All, Option, None, Some}
+use Rattle.std.specs.Prelude.{ℕ, ◌<◌, length, All, Option, None, Some}
 use Rattle.jv_layout.specs.Folder.{LayoutOf}
 
 -- a number, where there is one, is below n

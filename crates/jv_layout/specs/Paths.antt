@@ -1,6 +1,6 @@
 -- Packages as prefixes of the clauses of files, and where a thing stands in a rising list.
-use Rattle.std.specs.Prelude.{◌≡◌, ℕ, ◌<◌, ◌≤◌, List, [], length, take, Result, MatchResult, None}
-use Rattle.std.specs.List.{slice_index_or}
+use Rattle.std.specs.Prelude.{◌≡◌, ℕ, zero, suc, ◌<◌, ◌≤◌, List, [], length, take, Option, Some, Result, MatchResult, None}
+use Rattle.std.specs.List.{slice_get, slice_index_or}
 use Rattle.std.specs.declared.cmp.Ordering.{Ordering}
 use Rattle.std.specs.declared.cmp.Ordering.TheVariants.{Less, Equal, Greater}
 use Rattle.jv_tree.specs.DeclTree.{UnitTree}
@@ -24,3 +24,12 @@ abbrev pub IsSearched : {X : Type 0} → (X → X → Ordering) → List X → X
 IsSearched {X} R xs x r = MatchResult r
     (λ i. (i < length xs) × ((d : X) → R x (slice_index_or xs i d) ≡ Equal) × ((k : ℕ) (d : X) → k < i → R x (slice_index_or xs k d) ≡ Greater))
     (λ i. (i ≤ length xs) × ((k : ℕ) (d : X) → k < i → R x (slice_index_or xs k d) ≡ Greater) × ((k : ℕ) (d : X) → i ≤ k → k < length xs → R x (slice_index_or xs k d) ≡ Less))
+
+-- the first file whose clause begins with the first k names of a file's clause, where a table has one
+abbrev pub first_file : List (List ℕ) → ℕ → ℕ → Option ℕ
+first_file rows f zero = None
+first_file rows f (suc k) = slice_get (slice_index_or rows f []) k
+
+-- what a table has for the first names of a clause is a file whose clause begins with the same
+pub record AreFirstFiles (units : List UnitTree) (rows : List (List ℕ)) : Type 0 where
+  pub same : (f k h : ℕ) → first_file rows f k ≡ Some h → take k (clause_at units h) ≡ take k (clause_at units f)

@@ -1,5 +1,5 @@
 -- What a layout says of its scopes (JLS 6.6, 8.1.1, 8.1.3, 8.5, 9.1.1, 9.3, 9.4).
-use Rattle.std.specs.Prelude.{ℕ, ◌+◌, ◌==◌, Bool, true, false, ◌||◌, ◌&&◌, cond, List, [], ◌∷◌, length, map, Option, None, Some}
+use Rattle.std.specs.Prelude.{ℕ, ◌==◌, Bool, true, false, ◌||◌, ◌&&◌, cond, List, [], length, map, Option, None, Some}
 use Rattle.std.specs.List.{filter, range_with_len, slice_index_or}
 use Rattle.std.specs.Option.{option_map}
 use Rattle.sg_base.specs.declared.scope.Scope.{Scope}

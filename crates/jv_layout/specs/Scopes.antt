@@ -1,5 +1,5 @@
 -- The scopes of a layout: root, unnamed package, packages, files, types, members, signatures, each kind in the order of its rows.
-use Rattle.std.specs.Prelude.{ℕ, ◌+◌, ◌-◌, ◌==◌, ◌<◌, nat_lt, Bool, cond, List, length, Option, None, Some}
+use Rattle.std.specs.Prelude.{ℕ, ◌+◌, ◌-◌, ◌==◌, ◌<◌, nat_lt, cond, length}
 use Rattle.sg_base.specs.declared.scope.Scope.{Scope}
 use Rattle.sg_state.specs.Opening.{nobody}
 use Rattle.jv_layout.specs.declared.place.Place.{Place}

@@ -2,9 +2,7 @@
 use Rattle.std.specs.Prelude.{ℕ, ◌+◌, ◌<◌, ◌≤◌, ◌^◌, nat_le, List, length}
 use Rattle.std.specs.List.{sum_by, count_by}
 use Rattle.jv_layout.specs.declared.rows.TypeRow.{TypeRow}
-use Rattle.jv_tree.specs.declared.name.Ident.{Ident}
-use Rattle.jv_tree.specs.StmtTree.{VarTree}
-use Rattle.jv_tree.specs.DeclTree.{TypeDeclTree, type_decl, MemberTree, nested, field, method, ctor, MemberTrees, no_members, members, UnitTree}
+use Rattle.jv_tree.specs.DeclTree.{TypeDeclTree, type_decl, nested, field, method, ctor, MemberTrees, no_members, members, UnitTree}
 use Rattle.jv_layout.specs.Folder.{clause_of}
 
 -- how many names a declaration declares: types, fields, methods and constructors

@@ -1,5 +1,5 @@
 -- The opening of a layout: its scopes, one definition for each kind of edge, the data, and who holds what.
-use Rattle.std.specs.Prelude.{ℕ, ◌+◌, ◌==◌, ◌&&◌, Bool, true, not, List, [], ◌∷◌, ◌++◌, length, map, take, Option, None, Some}
+use Rattle.std.specs.Prelude.{ℕ, ◌+◌, ◌==◌, ◌&&◌, Bool, not, List, [], ◌∷◌, ◌++◌, length, map, take, Option, None, Some}
 use Rattle.std.specs.List.{filter, flat_map, list_any, range_with_len, slice_index_or}
 use Rattle.sg_base.specs.declared.scope.Scope.{Scope}
 use Rattle.sg_base.specs.Graph.{Edge}

@@ -1,5 +1,5 @@
 -- The printed names of scopes.
-use Rattle.std.specs.Prelude.{ℕ, ◌+◌, zero, suc, List, [], ◌∷◌, ◌++◌, length, map, Option, None, Some, codes}
+use Rattle.std.specs.Prelude.{ℕ, zero, suc, List, [], ◌∷◌, ◌++◌, length, map, Option, None, Some, codes}
 use Rattle.std.specs.List.{join_with_byte, slice_index_or}
 use Rattle.sg_base.specs.declared.scope.Scope.{Scope}
 use Rattle.jv_tree.specs.declared.names.NameId.{NameId}
@@ -7,7 +7,6 @@ use Rattle.jv_layout.specs.declared.place.Place.{Place}
 use Rattle.jv_layout.specs.declared.place.Place.TheVariants.{Outside, Root, Unnamed, Package, File, Ty, Member, Signature}
 use Rattle.jv_layout.specs.declared.rows.MemberKind.{MemberKind}
 use Rattle.jv_layout.specs.declared.rows.MemberKind.TheVariants.{Field, Method, Ctor, DefaultCtor}
-use Rattle.jv_layout.specs.declared.rows.MemberRow.{MemberRow}
 use Rattle.jv_layout.specs.Folder.{LayoutOf, text_of}
 use Rattle.jv_layout.specs.Scopes.{place_of}
 use Rattle.jv_layout.specs.Readers.{type_at, member_at}

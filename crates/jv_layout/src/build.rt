@@ -87,8 +87,8 @@ fn from_rows(
 /// The layout of files, of which the first two are the prelude's. The numbers in the trees are those of `names`.
 ///
 /// There are at most 4,098 files, and they declare fewer than 2^28 names. `TooManyTypes` says that more than 32,768
-/// types stand behind the prelude's. It takes time in the names that are declared, and for each name of a package
-/// clause a search among the packages.
+/// types stand behind the prelude's. It takes time in the names that are declared, and n names of package clauses take
+/// n log n comparisons of packages, each of a step for each halving of their numbers of names.
 pub fn layout(alloc: Global, names: &Names, files: &[Unit]) -> Result<Layout, LayoutFault>
     requires { IsFolder (map tree_of files.now) }
     ensures value { IfOk result (λ l. l ≡ layout_of names.now (map tree_of files.now)) }
@@ -101,8 +101,8 @@ pub fn layout(alloc: Global, names: &Names, files: &[Unit]) -> Result<Layout, La
     if own_types(&collected.types) > MOST_TYPES {
         return Err(LayoutFault::TooManyTypes);
     }
-    let sorted = paths(alloc, names, files)?;
-    let packages = package_rows(alloc, names, files, &sorted)?;
-    let files_packages = file_rows(alloc, names, files, &sorted)?;
+    let named = paths(alloc, names, files)?;
+    let packages = package_rows(alloc, names, files, &named.firsts, &named.paths)?;
+    let files_packages = file_rows(alloc, names, files, &named.firsts, &named.paths)?;
     Ok(from_rows(alloc, packages, files_packages, collected)?)
 }

@@ -9,7 +9,9 @@
 #![tactic(auto)]
 
 mod build;
+mod clauses;
 mod collect;
+mod compare;
 mod declarations;
 mod edges;
 mod fault;

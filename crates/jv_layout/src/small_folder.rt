@@ -9,8 +9,8 @@ use std::alloc::Global;
 use std::test::Fail;
 
 /// The texts of the names, by their numbers.
-const TEXTS: [&str; 10] = [
-    "java", "lang", "Object", "String", "p", "A", "B", "x", "m", "I",
+const TEXTS: [&str; 11] = [
+    "java", "lang", "Object", "String", "p", "A", "B", "x", "m", "I", "p$",
 ];
 
 const JAVA: u32 = 0;
@@ -32,6 +32,8 @@ const X: u32 = 7;
 const M: u32 = 8;
 
 const I: u32 = 9;
+
+const P_DOLLAR: u32 = 10;
 
 /// The names of the small folder.
 pub fn small_names(alloc: Global) -> Result<Names, Fail> {
@@ -137,6 +139,19 @@ pub fn small_files(alloc: Global) -> Result<Vec<Unit>, Fail> {
         file_in(alloc, &[JAVA, LANG], vec![in alloc; string]?)?,
         file_in(alloc, &[P], classes)?,
         unit(None, vec![in alloc]?, interfaces),
+    ]?;
+    Ok(files)
+}
+
+/// Files without types, of the packages `p.x.m`, `p$.x`, `p.A`, `p`, `p$` and again `p.x.m`.
+pub fn files_of_packages(alloc: Global) -> Result<Vec<Unit>, Fail> {
+    let files = vec![in alloc;
+        file_in(alloc, &[P, X, M], vec![in alloc]?)?,
+        file_in(alloc, &[P_DOLLAR, X], vec![in alloc]?)?,
+        file_in(alloc, &[P, A], vec![in alloc]?)?,
+        file_in(alloc, &[P], vec![in alloc]?)?,
+        file_in(alloc, &[P_DOLLAR], vec![in alloc]?)?,
+        file_in(alloc, &[P, X, M], vec![in alloc]?)?,
     ]?;
     Ok(files)
 }

@@ -4,11 +4,11 @@
 //! types 9 `Object`, 10 `String`, 11 `A`, 12 `A.B`, 13 `A` again, 14 `I` and 15 `I.B`, twelve members from 16 on, and
 //! their signatures from 28 on.
 
-use crate::small_folder::{small_files, small_names};
+use crate::small_folder::{files_of_packages, small_files, small_names};
 use crate::tables::scope_at;
 use crate::{Layout, LayoutFault, Place, is_folder, layout};
 use jv_instance::{JavaDatum, labels};
-use jv_tree::NameId;
+use jv_tree::{NameId, Unit};
 use sg_base::Scope;
 use sg_state::Opening;
 use std::alloc::Global;
@@ -21,7 +21,10 @@ fn faults_differ(rt: HostRuntime) {
 }
 
 fn small_layout(alloc: Global) -> Result<Layout, Fail> {
-    let files = small_files(alloc)?;
+    layout_of(alloc, small_files(alloc)?)
+}
+
+fn layout_of(alloc: Global, files: Vec<Unit>) -> Result<Layout, Fail> {
     let names = small_names(alloc)?;
     if !is_folder(&files) {
         return Err(Fail::new("too many names"));
@@ -254,5 +257,31 @@ fn units_hold_rows_and_data(rt: HostRuntime) -> Result<(), Fail> {
     assert_eq!(rt; rows.as_str(), ROWS);
     let data = data_held(rt.alloc(), &opening)?;
     assert_eq!(rt; data.as_str(), DATA);
+    Ok(())
+}
+
+// The packages stand by dotted name, byte by byte, and a dollar sign is before a dot.
+const DOTTED_NAMES: [(u32, &str); 6] = [
+    (2, "p"),
+    (3, "p$"),
+    (4, "p$.x"),
+    (5, "p.A"),
+    (6, "p.x"),
+    (7, "p.x.m"),
+];
+
+#[test]
+fn packages_stand_by_dotted_name(rt: HostRuntime) -> Result<(), Fail> {
+    let layout = layout_of(rt.alloc(), files_of_packages(rt.alloc())?)?;
+    let names = small_names(rt.alloc())?;
+    for (serial, wanted) in DOTTED_NAMES {
+        let found = layout.title(rt.alloc(), &names, scope_at(serial))?;
+        assert_eq!(rt; found.as_str(), wanted, "{serial}");
+    }
+    let opening = layout.opening(rt.alloc())?;
+    let enclosed = edges_by(rt.alloc(), &opening, labels::PKG)?;
+    assert_eq!(rt; enclosed.as_str(), "0-2 0-3 3-4 2-5 2-6 6-7 ");
+    let files = edges_by(rt.alloc(), &opening, labels::PKGOF)?;
+    assert_eq!(rt; files.as_str(), "8-7 9-4 10-5 11-2 12-3 13-7 ");
     Ok(())
 }

@@ -1,4 +1,4 @@
-use Rattle.std.proofs.Common.{◌≡◌, ℕ, ◌<◌, ◌^◌, List, length, map, sym, ap, ◌∙◌, subst, arith}
+use Rattle.std.proofs.Common.{◌≡◌, ◌<◌, ◌^◌, length, map, sym, ap, ◌∙◌, subst, arith}
 use Rattle.std.proofs.lemmas.List.{length-map}
 use Rattle.jv_tree.specs.DeclTree.{tree_of}
 use Rattle.jv_layout.specs.Folder.{paths_of}
@@ -12,29 +12,29 @@ pub package_rows-requires-clause-few : goal.package_rows-requires-clause-few
 package_rows-requires-clause-few c =
     let us = map tree_of c.args.files.now in
     let few : length (paths_of c.args.names.now us) < 2 ^ 28 = few_paths c.args.names.now us c.requires in
-    let same : length (map (path_at us) c.in_ok-sorted.sorted.items) ≡ length (paths_of c.args.names.now us) = ap length c.in_ok-sorted.ensures.paths in
-    let at : length c.deref-2.result.now ≡ length c.in_ok-sorted.sorted.items = ap length c.deref-2.ensures.value in
-    omega (arith, few, same, at, length-map c.in_ok-sorted.sorted.items (path_at us))
+    let same : length (map (path_at us) c.in_ok-named.named.paths.items) ≡ length (paths_of c.args.names.now us) = ap length c.in_ok-named.ensures.paths in
+    let at : length c.deref-3.result.now ≡ length c.in_ok-named.named.paths.items = ap length c.deref-3.ensures.value in
+    omega (arith, few, same, at, length-map c.in_ok-named.named.paths.items (path_at us))
 
 pub file_rows-requires-clause-few : goal.file_rows-requires-clause-few
 file_rows-requires-clause-few c =
     let us = map tree_of c.args.files.now in
     let few : length (paths_of c.args.names.now us) < 2 ^ 28 = few_paths c.args.names.now us c.requires in
-    let same : length (map (path_at us) c.in_ok-sorted.sorted.items) ≡ length (paths_of c.args.names.now us) = ap length c.in_ok-sorted.ensures.paths in
-    let at : length c.deref-3.result.now ≡ length c.in_ok-sorted.sorted.items = ap length c.deref-3.ensures.value in
-    omega (arith, few, same, at, length-map c.in_ok-sorted.sorted.items (path_at us))
+    let same : length (map (path_at us) c.in_ok-named.named.paths.items) ≡ length (paths_of c.args.names.now us) = ap length c.in_ok-named.ensures.paths in
+    let at : length c.deref-5.result.now ≡ length c.in_ok-named.named.paths.items = ap length c.deref-5.ensures.value in
+    omega (arith, few, same, at, length-map c.in_ok-named.named.paths.items (path_at us))
 
 pub from_rows-requires-clause-linked : goal.from_rows-requires-clause-linked
 from_rows-requires-clause-linked c =
-    subst IsLinked (sym (rows_same c.args.names.now c.args.files.now c.deref-2.result.now c.deref-3.result.now c.in_ok-sorted.sorted.items _ _ _ _ c.deref-2.ensures.value c.deref-3.ensures.value c.in_ok-sorted.ensures.paths
+    subst IsLinked (sym (rows_same c.args.names.now c.args.files.now c.deref-3.result.now c.deref-5.result.now c.in_ok-named.named.paths.items _ _ _ _ c.deref-3.ensures.value c.deref-5.ensures.value c.in_ok-named.ensures.paths
     c.in_ok-packages.ensures c.in_ok-files_packages.ensures c.in_ok-add_files.ensures.types c.in_ok-add_files.ensures.members)) (rows_linked c.args.names.now (map tree_of c.args.files.now) c.requires)
 
 pub from_rows-requires-clause-few : goal.from_rows-requires-clause-few
 from_rows-requires-clause-few c =
-    subst (λ l. scope_count l < 2 ^ 31) (sym (rows_same c.args.names.now c.args.files.now c.deref-2.result.now c.deref-3.result.now c.in_ok-sorted.sorted.items _ _ _ _ c.deref-2.ensures.value c.deref-3.ensures.value c.in_ok-sorted.ensures.paths
+    subst (λ l. scope_count l < 2 ^ 31) (sym (rows_same c.args.names.now c.args.files.now c.deref-3.result.now c.deref-5.result.now c.in_ok-named.named.paths.items _ _ _ _ c.deref-3.ensures.value c.deref-5.ensures.value c.in_ok-named.ensures.paths
     c.in_ok-packages.ensures c.in_ok-files_packages.ensures c.in_ok-add_files.ensures.types c.in_ok-add_files.ensures.members)) (few_scopes c.args.names.now (map tree_of c.args.files.now) c.requires)
 
 pub returns-clause-value : goal.returns-clause-value
 returns-clause-value c =
-    c.in_ok-from_rows.ensures ∙ rows_same c.args.names.now c.args.files.now c.deref-2.result.now c.deref-3.result.now c.in_ok-sorted.sorted.items _ _ _ _ c.deref-2.ensures.value c.deref-3.ensures.value c.in_ok-sorted.ensures.paths
+    c.in_ok-from_rows.ensures ∙ rows_same c.args.names.now c.args.files.now c.deref-3.result.now c.deref-5.result.now c.in_ok-named.named.paths.items _ _ _ _ c.deref-3.ensures.value c.deref-5.ensures.value c.in_ok-named.ensures.paths
     c.in_ok-packages.ensures c.in_ok-files_packages.ensures c.in_ok-add_files.ensures.types c.in_ok-add_files.ensures.members

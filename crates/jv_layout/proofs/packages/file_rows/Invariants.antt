@@ -4,5 +4,5 @@ use Rattle.jv_layout.specs.Folder.{file_row}
 use Rattle.jv_layout.specs.Paths.{path_at}
 use Rattle.jv_layout.proofs.packages.file_rows.Given as goal
 
-abbrev pub invariant-loop-unit : goal.invariant-loop-unit
-invariant-loop-unit l = l.rows.items ≡ map (λ u. file_row l.names (map (path_at (map tree_of l.files)) l.paths) (tree_of u)) (take l.unit-index l.files)
+abbrev pub invariant-loop-file : goal.invariant-loop-file
+invariant-loop-file l = l.rows.items ≡ map (λ u. file_row l.names (map (path_at (map tree_of l.files)) l.paths) (tree_of u)) (take l.file l.files)

@@ -1,21 +1,18 @@
-use Rattle.std.proofs.Common.{◌≡◌, ℕ, ◌<◌, List, [], map, sym, ap, ◌∙◌, subst, arith, length}
-use Rattle.std.specs.List.{fold}
-use Rattle.std.proofs.lemmas.List.{length-map}
+use Rattle.std.proofs.Common.{List, [], map, ap, ◌∙◌}
+use Rattle.std.specs.List.{fold, flat_map}
 use Rattle.sg_state.specs.Held.{put}
 use Rattle.jv_tree.specs.DeclTree.{UnitTree, tree_of}
+use Rattle.jv_layout.specs.declared.packages.Prefix.{Prefix}
 use Rattle.jv_layout.specs.Folder.{path_cmp, prefixes, clause_of}
-use Rattle.jv_layout.specs.Paths.{clause_at, no_unit}
-use Rattle.jv_layout.proofs.Paths.{fold_flat}
+use Rattle.jv_layout.specs.Paths.{path_at}
+use Rattle.jv_layout.proofs.Paths.{path_total}
+use Rattle.jv_layout.proofs.Sorting.{puts_found}
 use Rattle.jv_layout.proofs.packages.paths.Goals as goal
 
-pub loop-file-preserved : goal.loop-file-preserved
-loop-file-preserved c =
+pub returns-clause-paths : goal.returns-clause-paths
+returns-clause-paths c =
     let us = map tree_of c.args.files.now in
     let R = path_cmp c.args.names.now in
-    let i = c.loop-file.file in
-    let l : length us ≡ length c.args.files.now = length-map c.args.files.now tree_of in
-    let h : i < length us = omega arith in
-    record {
-      put = c.in_ok-add_clause.ensures.put ∙ (ap (λ (z : List (List ℕ)). fold (put R) z (prefixes (clause_at us i))) c.loop-file.invariant.put ∙ sym (fold_flat (put R) [] (λ u. prefixes (clause_of u)) us i no_unit h));
-      rising = c.in_ok-add_clause.ensures.rising;
-    }
+    let made = λ (ps : List Prefix). fold (put R) [] (map (path_at us) ps) in
+    c.in_ok-paths.ensures.paths ∙ (ap made c.deref-3.ensures.value ∙ (c.in_ok-sorted.ensures
+    ∙ puts_found R (path_total c.args.names.now) (map (path_at us) c.in_ok-packages.field-0.packages.items) (flat_map (λ (u : UnitTree). prefixes (clause_of u)) us) c.in_ok-packages.ensures.packages))

@@ -1,12 +1,11 @@
-use Rattle.std.proofs.Common.{◌≡◌, ◌+◌, ◌<◌, Some, List, [], ◌∷◌, ◌++◌, length, drop, get_or, refl, sym, ap, ◌∙◌, subst, map, arith, length-append}
+use Rattle.std.proofs.Common.{◌≡◌, ◌+◌, ◌<◌, Some, List, [], ◌∷◌, ◌++◌, length, drop, get_or, sym, ap, ◌∙◌, map, arith, length-append}
 use Rattle.jv_tree.specs.DeclTree.{member_tree, member_trees, type_decl_tree, members, nested}
 use Rattle.jv_tree.specs.StmtTree.{var_trees}
 use Rattle.jv_layout.specs.declared.collect.Collected.{Collected}
-use Rattle.jv_layout.specs.declared.rows.MemberRow.{MemberRow}
 use Rattle.jv_layout.specs.declared.rows.MemberKind.TheVariants.{Method, Ctor}
 use Rattle.jv_layout.specs.declared.rows.Modifiers.{Modifiers}
 use Rattle.jv_layout.specs.declared.rows.TypeRow.{TypeRow}
-use Rattle.jv_layout.specs.Folder.{decl_types, body_types, decl_members, body_members, decl_count, field_row, modifiers_of}
+use Rattle.jv_layout.specs.Folder.{decl_types, body_types, decl_members, body_members, decl_count, field_row}
 use Rattle.jv_layout.proofs.Collecting.{drop_here, nested_tree, length-decl_types, row_of}
 use Rattle.jv_layout.proofs.Looping.{moves}
 use Rattle.jv_layout.proofs.collect.Collected.+collect.Goals as goal

@@ -1,5 +1,5 @@
-use Rattle.std.proofs.Common.{◌≡◌, ◌+◌, ◌<◌, None, List, [], ◌∷◌, ◌++◌, length, drop, get_or, sym, ap, ◌∙◌, map, arith, length-append}
-use Rattle.jv_tree.specs.DeclTree.{TypeDeclTree, type_decl_tree}
+use Rattle.std.proofs.Common.{◌≡◌, ◌+◌, ◌<◌, None, ◌∷◌, ◌++◌, length, drop, get_or, sym, ap, ◌∙◌, map, arith, length-append}
+use Rattle.jv_tree.specs.DeclTree.{type_decl_tree}
 use Rattle.jv_layout.specs.Folder.{decl_types, decl_members, decl_count, file_types, file_members}
 use Rattle.jv_layout.proofs.Collecting.{drop_here, length-decl_types}
 use Rattle.jv_layout.proofs.Looping.{moves}

@@ -1,6 +1,5 @@
-use Rattle.std.proofs.Common.{◌≡◌, ℕ, ◌+◌, ◌<◌, List, [], ◌∷◌, ◌++◌, length, drop, get_or, sym, ap, ◌∙◌, map, arith, length-append}
-use Rattle.jv_tree.specs.DeclTree.{TypeDeclTree, UnitTree, type_decl_tree, tree_of}
-use Rattle.jv_layout.specs.declared.collect.Collected.{Collected}
+use Rattle.std.proofs.Common.{◌≡◌, ◌+◌, ◌<◌, List, ◌∷◌, ◌++◌, length, drop, get_or, sym, ap, ◌∙◌, map, arith, length-append}
+use Rattle.jv_tree.specs.DeclTree.{TypeDeclTree, type_decl_tree, tree_of}
 use Rattle.jv_layout.specs.Folder.{file_types, file_members, file_count, types_from, members_from}
 use Rattle.jv_layout.proofs.Collecting.{drop_here, length-file_types}
 use Rattle.jv_layout.proofs.Looping.{moves}

@@ -1,4 +1,4 @@
-use Rattle.std.proofs.Common.{[], arith}
+use Rattle.std.proofs.Common.{arith}
 use Rattle.jv_layout.specs.Skeleton.{type_datum}
 use Rattle.jv_layout.proofs.Looping.{pushed_plain}
 use Rattle.jv_layout.proofs.tables.Layout.add_type_data.Goals as goal

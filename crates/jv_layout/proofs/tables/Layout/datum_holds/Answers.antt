@@ -1,4 +1,4 @@
-use Rattle.std.proofs.Common.{map, arith}
+use Rattle.std.proofs.Common.{arith}
 use Rattle.sg_state.specs.Opening.{held_datum_of}
 use Rattle.jv_layout.specs.Skeleton.{signature_hold}
 use Rattle.jv_layout.proofs.Looping.{pushed_first}

@@ -1,6 +1,6 @@
-use Rattle.std.proofs.Common.{◌≡◌, [], ◌∷◌, ◌++◌, map, ap, sym, ◌∙◌, arith}
+use Rattle.std.proofs.Common.{arith}
 use Rattle.sg_state.specs.Opening.{row_hold_of}
-use Rattle.jv_layout.specs.Skeleton.{file_hold, below}
+use Rattle.jv_layout.specs.Skeleton.{file_hold}
 use Rattle.jv_layout.proofs.Looping.{pushed_two}
 use Rattle.jv_layout.proofs.tables.Layout.row_holds.Goals as goal
 
