@@ -19,6 +19,7 @@ use Rattle.sg_reading.proofs.Asking.{any_ends, AllEnds-more, and_then-asked_wher
 use Rattle.jv_instance.specs.declared.access.Access.{Access}
 use Rattle.jv_instance.specs.declared.access.Access.TheVariants.{Public, Protected, Package as PackageAccess, Private}
 use Rattle.jv_instance.specs.declared.labels.TheConstants.{FIELD, METH}
+use Rattle.jv_instance.specs.declared.type_base.TypeBase.TheVariants.{Boolean, Char, Int, Long, Void}
 use Rattle.jv_instance.specs.declared.datum.JavaDatum.{JavaDatum}
 use Rattle.jv_instance.specs.declared.pred.JavaPred.{JavaPred}
 use Rattle.jv_layout.specs.declared.place.Place.{Place}
@@ -32,7 +33,8 @@ use Rattle.jv_layout.specs.Scopes.{place_of, root_scope, file_scope, type_scope}
 use Rattle.jv_layout.proofs.SoundPlaces.{placed, scopes_have_places}
 use Rattle.jv_tree.specs.declared.name.Ident.{Ident}
 use Rattle.jv_tree.specs.declared.names.NameId.{NameId}
-use Rattle.jv_tree.specs.Numbered.{IsNumberedIdent, IsNumberedName}
+use Rattle.jv_tree.specs.Numbered.{IsNumberedIdent, IsNumberedName, IsNumberedBase, IsNumberedType}
+use Rattle.jv_tree.specs.TypeTree.{BaseTree, boolean, char, int, long, void, named, TypeTree}
 use Rattle.jv_names.specs.declared.context.Context.{Context}
 use Rattle.jv_names.specs.declared.context.Context.TheVariants.{TypeName, SingleImport, OnDemandImport}
 use Rattle.jv_names.specs.declared.counts.Counts.{Counts}
@@ -45,12 +47,13 @@ use Rattle.jv_names.specs.declared.qualifier.Qualifier.TheVariants.{InPackage, I
 use Rattle.jv_names.specs.declared.resolved.Resolved.{Resolved}
 use Rattle.jv_names.specs.Access.{is_same_package, has_super, some_body, member_type_by, type_accessible_by, type_accessible, receiver_fits, body_fits, is_constructor, protected_elsewhere, member_accessible_by, member_accessible}
 use Rattle.jv_names.specs.Bodies.{outward, header_bodies}
-use Rattle.jv_names.specs.Bounds.{is_start, IsNameQuery, IsTypeScope, IsPackageScope, AreTypes, MeansOnly, EndsOnly, IsMemberScope, FieldsStayIn, MethodsStayIn, BodiesAreTypes, IsMeant, IsResolvedIn, IsReferenceIn, StaysIn}
+use Rattle.jv_names.specs.Bounds.{is_start, IsNameQuery, IsTypeScope, IsPackageScope, AreTypes, MeansOnly, EndsOnly, IsMemberScope, FieldsStayIn, MethodsStayIn, BodiesAreTypes, IsMeant, IsResolvedIn, IsReferenceIn, IsBaseIn, IsWrittenIn, WrittenTypesStayIn, StaysIn}
 use Rattle.jv_names.specs.Ends.{path_end, is_sought, passes, is_counted, counted_ends, meaning_of, answer_meaning, answer_ends}
 use Rattle.jv_names.specs.Members.{find_ends, field, methods}
 use Rattle.jv_names.specs.Names.{look_up, or_next, file_type, member_type, simple_type, ended, on_one, last_meaning, type_part, package_type, subpackage, further_parts, from_root, not_a_type, type_name, import_context, import_name}
 use Rattle.jv_names.specs.Reference.{refused, reference}
 use Rattle.jv_names.specs.Replies.{Rule, for_name}
+use Rattle.jv_names.specs.WrittenTypes.{meant_base, plain_written, named_written, written_base, written_type}
 
 -- ---- places
 
@@ -365,6 +368,29 @@ module _ (l : LayoutOf) (count : ℕ) where
   unfolding reference
   reference_stays file bodies ids below around numbered = referred_stays TypeName file bodies (type_name l file bodies ids) around (type_name_stays file bodies ids below around numbered)
 
+  -- ---- types that are written
+
+  meant_base_in : (m : Meaning) → MeansOnly (IsMeant l TypeName) m → IsBaseIn l (meant_base m)
+  meant_base_in (One s) h = h
+  meant_base_in Nothing h = tt
+  meant_base_in Ambiguous h = tt
+  meant_base_in TooMany h = tt
+
+  module _ (names : List (List ℕ)) (file : ℕ) (bodies : List Scope) (below : file < length l.files) (around : AreTypes l bodies) where
+    written_base_stays : (dims : ℕ) (b : BaseTree) → IsNumberedBase count b → StaysIn l count (IsWrittenIn l) (written_base l names file bodies dims b)
+    written_base_stays dims boolean numbered = done_stays (IsWrittenIn l) (plain_written Boolean dims) tt
+    written_base_stays dims char numbered = done_stays (IsWrittenIn l) (plain_written Char dims) tt
+    written_base_stays dims int numbered = done_stays (IsWrittenIn l) (plain_written Int dims) tt
+    written_base_stays dims long numbered = done_stays (IsWrittenIn l) (plain_written Long dims) tt
+    written_base_stays dims void numbered = done_stays (IsWrittenIn l) (plain_written Void dims) tt
+    written_base_stays dims (named ids) numbered =
+        then_stays (IsReferenceIn l TypeName) (IsWrittenIn l) (reference l file bodies ids) (λ r. done (named_written l names file ids dims r)) (reference_stays file bodies ids below around numbered)
+        (λ r is. done_stays (IsWrittenIn l) (named_written l names file ids dims r) (meant_base_in r.meaning is.meaning))
+
+    pub written_type_stays : (t : TypeTree) → IsNumberedType count t → StaysIn l count (IsWrittenIn l) (written_type l names file bodies t)
+    unfolding written_type
+    written_type_stays t numbered = written_base_stays t.dims t.base numbered
+
 -- ---- as laws
 
 pub fields_stay_in : FieldsStayIn
@@ -375,3 +401,6 @@ methods_stay_in l count class n h numbered = methods_stay l count n numbered cla
 
 pub bodies_are_types : BodiesAreTypes
 bodies_are_types l c linked h = (header_bodies_types l linked c h, All-cons (IsTypeScope l) c (header_bodies l c) h (header_bodies_types l linked c h))
+
+pub written_types_stay_in : WrittenTypesStayIn
+written_types_stay_in l count names file bodies t below around numbered = written_type_stays l count names file bodies below around t numbered

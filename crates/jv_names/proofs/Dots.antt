@@ -1,5 +1,5 @@
 -- Names as they are written, from the first identifier on.
-use Rattle.std.proofs.Common.{◌≡◌, ℕ, List, [], ◌∷◌, ◌++◌, refl, sym, ap, ◌∙◌}
+use Rattle.std.proofs.Common.{◌≡◌, ℕ, List, ◌∷◌, ◌++◌, sym, ap, ◌∙◌}
 use Rattle.jv_layout.specs.Folder.{text_of, numbers_of}
 use Rattle.jv_layout.specs.Titles.{following}
 use Rattle.jv_layout.proofs.Naming.{dotted_first}

@@ -9,3 +9,4 @@ pub mod Before
 pub mod Table
 pub mod Walking
 pub mod Bounds
+pub mod WrittenTypes

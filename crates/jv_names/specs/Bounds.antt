@@ -6,6 +6,8 @@ use Rattle.sg_reading.specs.Reading.{AllAsked, AllEnds}
 use Rattle.jv_instance.specs.declared.pred.JavaPred.{JavaPred}
 use Rattle.jv_instance.specs.declared.pred.JavaPred.TheVariants.{Named, Any}
 use Rattle.jv_instance.specs.declared.labels.TheConstants.{FIELD, METH}
+use Rattle.jv_instance.specs.declared.type_base.TypeBase.{TypeBase}
+use Rattle.jv_instance.specs.declared.type_base.TypeBase.TheVariants.{Boolean, Char, Int, Long, Class, Null, Void, Bad}
 use Rattle.jv_layout.specs.declared.place.Place.{Place}
 use Rattle.jv_layout.specs.declared.place.Place.TheVariants.{Outside, Root, Unnamed, Package, File, Ty, Member, Signature}
 use Rattle.jv_layout.specs.Fits.{is_package, is_type, is_member_by}
@@ -14,7 +16,8 @@ use Rattle.jv_layout.specs.Linked.{IsLinked}
 use Rattle.jv_layout.specs.Scopes.{place_of}
 use Rattle.jv_tree.specs.declared.name.Ident.{Ident}
 use Rattle.jv_tree.specs.declared.names.NameId.{NameId}
-use Rattle.jv_tree.specs.Numbered.{IsNumberedName}
+use Rattle.jv_tree.specs.Numbered.{IsNumberedName, IsNumberedType}
+use Rattle.jv_tree.specs.TypeTree.{TypeTree}
 use Rattle.jv_names.specs.declared.context.Context.{Context}
 use Rattle.jv_names.specs.declared.context.Context.TheVariants.{TypeName, SingleImport, OnDemandImport}
 use Rattle.jv_names.specs.declared.ends.Ends.{Ends}
@@ -24,6 +27,7 @@ use Rattle.jv_names.specs.declared.meaning.Meaning.{Meaning}
 use Rattle.jv_names.specs.declared.meaning.Meaning.TheVariants.{One, Nothing, Ambiguous, TooMany}
 use Rattle.jv_names.specs.declared.reference.Reference.{Reference}
 use Rattle.jv_names.specs.declared.resolved.Resolved.{Resolved}
+use Rattle.jv_names.specs.declared.written_type.WrittenType.{WrittenType}
 use Rattle.jv_names.specs.Access.{type_accessible, member_accessible}
 use Rattle.jv_names.specs.Bodies.{header_bodies, member_bodies}
 use Rattle.jv_names.specs.Kinds.{kinds}
@@ -31,6 +35,7 @@ use Rattle.jv_names.specs.Members.{field, methods}
 use Rattle.jv_names.specs.Names.{type_name, import_context, import_name}
 use Rattle.jv_names.specs.Reference.{reference}
 use Rattle.jv_names.specs.Replies.{Rule}
+use Rattle.jv_names.specs.WrittenTypes.{written_type}
 
 -- ---- queries
 
@@ -103,6 +108,21 @@ pub record IsReferenceIn (l : LayoutOf) (context : Context) (r : Reference) : Ty
   pub meaning : MeansOnly (IsMeant l context) r.meaning
   pub refused : AreTypes l r.refused
 
+-- where a base is a class or an interface, that is a type of the layout
+abbrev pub IsBaseIn : LayoutOf → TypeBase → Type 0
+IsBaseIn l (Class s) = IsTypeScope l s
+IsBaseIn l Boolean = Unit {0}
+IsBaseIn l Char = Unit {0}
+IsBaseIn l Int = Unit {0}
+IsBaseIn l Long = Unit {0}
+IsBaseIn l Null = Unit {0}
+IsBaseIn l Void = Unit {0}
+IsBaseIn l Bad = Unit {0}
+
+-- a type that is written has such a base
+abbrev pub IsWrittenIn : LayoutOf → WrittenType → Type 0
+IsWrittenIn l w = IsBaseIn l w.ty.base
+
 -- ---- rules
 
 -- whatever the answers, a rule asks queries of names alone, and ends with values of this kind
@@ -131,6 +151,12 @@ abbrev pub ReferencesStayIn : Type 0
 ReferencesStayIn =
     (l : LayoutOf) (count file : ℕ) (bodies : List Scope) (ids : List Ident) → file < length l.files → AreTypes l bodies → IsNumberedName count ids
     → StaysIn l count (IsReferenceIn l TypeName) (reference l file bodies ids)
+
+-- types that are written
+abbrev pub WrittenTypesStayIn : Type 0
+WrittenTypesStayIn =
+    (l : LayoutOf) (count : ℕ) (names : List (List ℕ)) (file : ℕ) (bodies : List Scope) (t : TypeTree) → file < length l.files → AreTypes l bodies → IsNumberedType count t
+    → StaysIn l count (IsWrittenIn l) (written_type l names file bodies t)
 
 -- the fields and the methods of a name in a type
 abbrev pub FieldsStayIn : Type 0

@@ -11,11 +11,13 @@ use Rattle.jv_instance.specs.declared.pred.JavaPred.{JavaPred}
 use Rattle.jv_layout.specs.Folder.{LayoutOf}
 use Rattle.jv_tree.specs.declared.name.Ident.{Ident}
 use Rattle.jv_tree.specs.declared.names.NameId.{NameId}
+use Rattle.jv_tree.specs.TypeTree.{TypeTree}
 use Rattle.jv_names.specs.Access.{type_accessible, member_accessible}
 use Rattle.jv_names.specs.Kinds.{asked_by}
 use Rattle.jv_names.specs.Members.{field, methods}
 use Rattle.jv_names.specs.Names.{type_name, import_name}
 use Rattle.jv_names.specs.Replies.{Rule}
+use Rattle.jv_names.specs.WrittenTypes.{written_type}
 
 -- the query has this answer in the graph
 abbrev pub InGraph : GraphOf JavaDatum → Query JavaPred → Answer JavaDatum → Type 0
@@ -44,3 +46,7 @@ MethodsReadOnlyTheirQueries = (l : LayoutOf) (class : Scope) (n : NameId) → Re
 abbrev pub MemberAccessReadsOnlyItsQueries : Type 0
 MemberAccessReadsOnlyItsQueries =
     (l : LayoutOf) (file : ℕ) (bodies : List Scope) (m : Scope) (through : Option Scope) → ReadsOnlyItsQueries (member_accessible l file bodies m through)
+
+abbrev pub WrittenTypesReadOnlyTheirQueries : Type 0
+WrittenTypesReadOnlyTheirQueries =
+    (l : LayoutOf) (names : List (List ℕ)) (file : ℕ) (bodies : List Scope) (t : TypeTree) → ReadsOnlyItsQueries (written_type l names file bodies t)

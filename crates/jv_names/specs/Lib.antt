@@ -11,3 +11,4 @@ pub mod Bodies
 pub mod Reference
 pub mod Written
 pub mod Bounds
+pub mod WrittenTypes

@@ -53,7 +53,7 @@ fn has_super(
 
 /// Whether a type is one of the bodies or among their supertypes.
 #[tactic(auto, using(crate::proofs::Steps::name_steps))]
-fn some_has_super(
+pub fn some_has_super(
     l: &Layout,
     o: &Oracle,
     bodies: &[Scope],

@@ -1,7 +1,7 @@
 //! Laws of the rules of names, each the contract of a function that does nothing.
 
-ghost use Rattle.jv_names.specs.Bounds.{TypeNamesStayIn, ImportsStayIn, TypeAccessStaysIn, ReferencesStayIn, FieldsStayIn, MethodsStayIn, MemberAccessStaysIn, BodiesAreTypes};
-ghost use Rattle.jv_names.specs.Law.{TypeNamesReadOnlyTheirQueries, ImportsReadOnlyTheirQueries, TypeAccessReadsOnlyItsQueries, FieldsReadOnlyTheirQueries, MethodsReadOnlyTheirQueries, MemberAccessReadsOnlyItsQueries};
+ghost use Rattle.jv_names.specs.Bounds.{TypeNamesStayIn, ImportsStayIn, TypeAccessStaysIn, ReferencesStayIn, WrittenTypesStayIn, FieldsStayIn, MethodsStayIn, MemberAccessStaysIn, BodiesAreTypes};
+ghost use Rattle.jv_names.specs.Law.{TypeNamesReadOnlyTheirQueries, ImportsReadOnlyTheirQueries, TypeAccessReadsOnlyItsQueries, FieldsReadOnlyTheirQueries, MethodsReadOnlyTheirQueries, MemberAccessReadsOnlyItsQueries, WrittenTypesReadOnlyTheirQueries};
 
 /// The meaning of the name of a type looks at a graph only by the queries that it asks.
 pub fn resolve_type_reads_only_its_queries()
@@ -33,14 +33,20 @@ pub fn accessible_reads_only_its_queries()
     ensures { MemberAccessReadsOnlyItsQueries }
 {}
 
+/// The meaning of a type that is written looks at a graph only by the queries that it asks.
+pub fn resolve_written_type_reads_only_its_queries()
+    ensures { WrittenTypesReadOnlyTheirQueries }
+{}
+
 /// Whatever the answers, the rules of names and of access ask from the root, packages, files and types of the layout alone,
 /// never for signatures, and only for names that are numbered. What a name means is a type of the layout, and in an import
-/// on demand a type or a package.
+/// on demand a type or a package. A type that is written has a type of the layout as its base, or no class.
 pub fn rules_ask_in_the_layout()
     ensures type_names { TypeNamesStayIn }
     ensures imports { ImportsStayIn }
     ensures access { TypeAccessStaysIn }
     ensures references { ReferencesStayIn }
+    ensures written_types { WrittenTypesStayIn }
 {}
 
 /// Whatever the answers, the rules of members ask queries of names alone, from types of the layout: the field and the methods

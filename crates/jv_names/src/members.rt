@@ -22,7 +22,7 @@ use std::alloc::{AllocError, Global};
 
 /// The distinct ends by one query.
 #[tactic(auto, using(crate::proofs::Steps::name_steps))]
-fn find_ends(
+pub fn find_ends(
     alloc: Global,
     l: &Layout,
     o: &Oracle,

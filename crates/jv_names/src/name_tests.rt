@@ -3,15 +3,16 @@
 use crate::kinds::{self, FILETYPE, MEMTYPE, OWNTYPE, SUBPKG};
 use crate::small_folder::{
     A, B, C, JAVA, LANG, M, OBJECT, P, Q, STRING, X, Y, Z, ident, scope, small_graph, small_layout,
+    small_names,
 };
 use crate::small_replies::{SmallFolder, put_reply, small_folder};
 use crate::{
     Ends, Meaning, Oracle, Resolved, Spot, accessible, find_field, find_methods, java_kinds,
-    resolve_import, resolve_type, type_accessible,
+    resolve_import, resolve_type, resolve_written_type, type_accessible,
 };
-use jv_instance::{JavaDatum, JavaPred, labels};
+use jv_instance::{JavaDatum, JavaPred, TypeBase, labels};
 use jv_layout::Layout;
-use jv_tree::{Import, Name, NameId};
+use jv_tree::{Base, Import, Name, NameId, TypeRef};
 use sg_base::{Label, Path, Step};
 use sg_query::{Answer, Found, FoundPaths, Query};
 use sg_reading::Known;
@@ -134,6 +135,51 @@ fn imports_start_at_the_root(rt: HostRuntime) -> Result<(), Fail> {
     let small = small_folder(rt.alloc())?;
     for (all, numbers, wanted) in IMPORTS {
         let text = import_told(rt.alloc(), &small, all, numbers)?;
+        assert_eq!(rt; text.as_str(), wanted);
+    }
+    Ok(())
+}
+
+// A type that is written in the file of `B`, with the codes of its diagnostics.
+fn written_told(alloc: Global, small: &SmallFolder, base: Base, dims: u8) -> Result<String, Fail> {
+    let spot = spot_of(alloc, 3, &[])?;
+    if spot.file >= 4 {
+        return Err("no such file".into());
+    }
+    let names = small_names(alloc)?;
+    let ty = TypeRef { at: 0, base, dims };
+    let found = resolve_written_type(alloc, &small.layout, &names, &small.oracle, &spot, &ty)?;
+    let meant = known(found)?;
+    let mut text = String::new(alloc);
+    match meant.ty.base {
+        TypeBase::Int => write!(text, "int")?,
+        TypeBase::Class(s) => write!(text, "{}", s.serial)?,
+        TypeBase::Bad => write!(text, "bad")?,
+        _ => write!(text, "another")?,
+    }
+    write!(text, " {}", meant.ty.dims)?;
+    for diag in meant.diags.as_slice() {
+        write!(text, " E{}", diag.code)?;
+    }
+    Ok(text)
+}
+
+// Names that are written as types with brackets: what each means.
+const WRITTEN: [(&[u32], u8, &str); 4] = [
+    (&[A], 1, "12 1"),
+    (&[P, A, M], 0, "13 0 E22"),
+    (&[C], 2, "bad 2 E20"),
+    (&[JAVA, LANG], 0, "bad 0 E20"),
+];
+
+#[test]
+fn types_are_written(rt: HostRuntime) -> Result<(), Fail> {
+    let small = small_folder(rt.alloc())?;
+    let text = written_told(rt.alloc(), &small, Base::Int, 2)?;
+    assert_eq!(rt; text.as_str(), "int 2");
+    for (numbers, dims, wanted) in WRITTEN {
+        let base = Base::Named(name_of(rt.alloc(), numbers)?);
+        let text = written_told(rt.alloc(), &small, base, dims)?;
         assert_eq!(rt; text.as_str(), wanted);
     }
     Ok(())

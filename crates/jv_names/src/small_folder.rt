@@ -193,7 +193,8 @@ fn small_files(alloc: Global) -> Result<Vec<Unit>, AllocError>
     Ok(files)
 }
 
-fn small_names(alloc: Global) -> Result<Names, AllocError> {
+/// The names of the small folder.
+pub fn small_names(alloc: Global) -> Result<Names, AllocError> {
     let mut names = Names::new(alloc);
     for text in TEXTS {
         if names.len() < 100 {

@@ -96,7 +96,7 @@ fn is_base(a: TypeBase, b: TypeBase) -> bool
 }
 
 /// Whether two types are the same.
-pub(crate) fn is_type(a: Ty, b: Ty) -> bool
+pub fn is_type(a: Ty, b: Ty) -> bool
     ensures { result ≡ is_type a b }
 {
     is_base(a.base, b.base) && a.dims == b.dims

@@ -21,7 +21,7 @@ pub use assigning::{assignable, subtype};
 pub use binary_operators::binary;
 pub use casting::castable;
 pub use conditionals::conditional;
-pub use kinds::{is_numeric, is_reference};
+pub use kinds::{is_numeric, is_reference, is_type};
 pub use promotion::promote;
 pub use side::Side;
 pub use unary_operators::unary;
