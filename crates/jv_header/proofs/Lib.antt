@@ -5,3 +5,4 @@ pub mod Waiting
 pub mod Least
 pub mod Importing
 pub mod Programs
+pub mod ImportQueries

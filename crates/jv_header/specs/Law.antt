@@ -1,9 +1,10 @@
 -- Laws of headers and imports.
-use Rattle.std.specs.Prelude.{◌≡◌, ℕ, ◌↔◌, List, length, map, Bool}
+use Rattle.std.specs.Prelude.{◌≡◌, ℕ, ◌⊎◌, ◌↔◌, List, length, map, Bool}
 use Rattle.std.specs.List.{Contains}
 use Rattle.sg_base.specs.declared.scope.Scope.{Scope}
 use Rattle.sg_base.specs.Graph.{GraphOf, IsGraph, HasScope, HasEdge}
 use Rattle.sg_query.specs.declared.query.Query.{Query}
+use Rattle.sg_reading.specs.Reading.{AllAsked}
 use Rattle.sg_strata.specs.Program.{Program, IsProgram, IsQuiet, graph_with}
 use Rattle.sg_strata.specs.Strata.{IsStratified, IsGreatest}
 use Rattle.jv_instance.specs.declared.datum.JavaDatum.{JavaDatum}
@@ -16,6 +17,7 @@ use Rattle.jv_layout.specs.Scopes.{signature_of_member}
 use Rattle.jv_layout.specs.Skeleton.{below, skeleton_of}
 use Rattle.jv_tree.specs.declared.name.Ident.{Ident}
 use Rattle.jv_tree.specs.DeclTree.{UnitTree}
+use Rattle.jv_names.specs.declared.kinds.TheConstants.{OWNTYPE, SUBPKG}
 use Rattle.jv_names.specs.Kinds.{asked_by}
 use Rattle.jv_names.specs.Law.{ReadsOnlyItsQueries}
 use Rattle.jv_header.specs.Depends.{depends_rule}
@@ -89,3 +91,11 @@ HeadersHaveOneGreatest =
     (l : LayoutOf) (names : List (List ℕ)) (extends implements : Scope → List (List Ident)) (g : GraphOf JavaDatum) → IsOver l g → (in_set in_set' : Scope → Bool) (row row' : Scope → List Scope)
     → IsGreatest (program_of l names extends implements g) in_set row → IsGreatest (program_of l names extends implements g) in_set' row'
     → ((c : Scope) → Contains (types_of l) c → in_set c ≡ in_set' c) × (graph_with (program_of l names extends implements g) in_set row ≡ graph_with (program_of l names extends implements g) in_set' row')
+
+-- a query asks for the types, or for the packages, that a package or a type declares itself
+abbrev pub AsksForOwn : Query JavaPred → Type 0
+AsksForOwn q = (q.kind ≡ OWNTYPE) ⊎ (q.kind ≡ SUBPKG)
+
+-- whatever the answers, the imports of a file ask such queries alone: what they ask depends on no row that is open at the opening
+abbrev pub ImportsAskForOwn : Type 0
+ImportsAskForOwn = (l : LayoutOf) (names : List (List ℕ)) (file : ℕ) (u : UnitTree) → AllAsked AsksForOwn (imports_rule l names file u)

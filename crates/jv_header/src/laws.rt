@@ -1,7 +1,7 @@
 //! Laws of headers and imports, each the contract of a function that does nothing.
 
 ghost use Rattle.jv_header.specs.Bounds.{HeadersStayIn, DependenceStaysIn, FileImportsStayIn};
-ghost use Rattle.jv_header.specs.Law.{DependencesReadOnlyTheirQueries, HeadersArePrograms, HeadersAreQuiet, HeadersHaveOneGraph, HeadersHaveOneGreatest, HeadersReadOnlyTheirQueries, ImportsReadOnlyTheirQueries};
+ghost use Rattle.jv_header.specs.Law.{DependencesReadOnlyTheirQueries, HeadersArePrograms, HeadersAreQuiet, HeadersHaveOneGraph, HeadersHaveOneGreatest, HeadersReadOnlyTheirQueries, ImportsAskForOwn, ImportsReadOnlyTheirQueries};
 
 /// The header of a type looks at a graph only by the queries that it asks.
 pub fn header_reads_only_its_queries()
@@ -44,4 +44,10 @@ pub fn rules_ask_in_the_layout()
     ensures headers { HeadersStayIn }
     ensures dependence { DependenceStaysIn }
     ensures imports { FileImportsStayIn }
+{}
+
+/// Whatever the answers, the imports of a file ask only for types and packages that a package or a type declares itself, so
+/// that what they ask depends on no row that is open when a run begins.
+pub fn imports_ask_for_own()
+    ensures { ImportsAskForOwn }
 {}
