@@ -1,0 +1,13 @@
+pub mod Steps
+pub mod Bounds
+pub mod ReadSteps
+pub mod ResultSteps
+pub mod Clashes
+pub mod PairSteps
+pub mod AboveSteps
+pub mod Grouping
+pub mod WholeSteps
+pub mod MeetingSteps
+pub mod GroupSteps
+pub mod CtorSteps
+pub mod MemberSteps

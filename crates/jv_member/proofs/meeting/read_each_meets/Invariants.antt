@@ -1,0 +1,17 @@
+use Rattle.std.proofs.Common.{ℕ, List, Option, Result, drop}
+use Rattle.std.specs.List.{filter}
+use Rattle.sg_query.specs.declared.query.Query.{Query}
+use Rattle.sg_reading.specs.declared.stop.Stop.{Stop}
+use Rattle.sg_reading.specs.Reading.{each}
+use Rattle.sg_reading.specs.Stop.{Reads}
+use Rattle.sg_reading.proofs.Lists.{each_after}
+use Rattle.jv_instance.specs.declared.pred.JavaPred.{JavaPred}
+use Rattle.jv_names.specs.Replies.{reply_to}
+use Rattle.jv_member.specs.Overriding.{meets, is_other}
+use Rattle.jv_member.proofs.meeting.read_each_meets.Given as goal
+
+-- what the rule comes to for the rest of the methods, after the codes so far, it comes to for all of them
+abbrev pub invariant-loop-other : goal.invariant-loop-other
+invariant-loop-other l =
+    (x : Result (List (Option ℕ)) (Stop (Query JavaPred))) → Reads (reply_to l.o) (each_after (meets l.l l.method l.signature) l.codes (filter (is_other l.method) (drop l.other-index l.methods))) x
+    → Reads (reply_to l.o) (each (meets l.l l.method l.signature) (filter (is_other l.method) l.methods)) x

@@ -1,0 +1,108 @@
+-- What is wrong with the declaration of a member itself (JLS 8.3, 8.3.1, 8.4, 8.4.3, 8.4.7, 8.8, 8.8.3, 8.1.3, 9.3, 9.4).
+use Rattle.std.specs.Prelude.{ℕ, ◌==◌, ◌&&◌, ◌||◌, not, Bool, true, false, cond, List, [], ◌∷◌, ◌++◌, is_some}
+use Rattle.std.specs.List.{flat_map, list_any}
+use Rattle.std.specs.Ordering.{is_eq, nat_cmp}
+use Rattle.std.specs.Cmp.Lexicographic.{slice_cmp}
+use Rattle.sg_base.specs.declared.scope.Scope.{Scope}
+use Rattle.jv_diag.specs.Plain.{DiagOf, diagnostic}
+use Rattle.jv_layout.specs.Duplicates.{is_duplicate}
+use Rattle.jv_layout.specs.Folder.{LayoutOf, text_of, is_written}
+use Rattle.jv_layout.specs.Readers.{file_of, is_interface_of, is_static_of}
+use Rattle.jv_tree.specs.declared.name.Ident.{Ident}
+use Rattle.jv_tree.specs.declared.names.NameId.{NameId}
+use Rattle.jv_tree.specs.DeclTree.{MethodTree}
+use Rattle.jv_tree.specs.StmtTree.{VarTree}
+use Rattle.jv_tree.specs.TypeTree.{BaseTree, boolean, char, int, long, void, named, TypeTree}
+use Rattle.jv_member.specs.Own.{OwnMember, own_field, own_method, own_ctor, default_ctor}
+
+-- diagnostics where there is a fault
+abbrev pub fault_if : Bool → DiagOf → List DiagOf
+fault_if b d = cond b (d ∷ []) []
+
+-- the diagnostics of several lists, one after another
+abbrev pub joined : List (List DiagOf) → List DiagOf
+joined ds = flat_map (λ d. d) ds
+
+-- a code at an identifier, with its text
+abbrev pub at_name : LayoutOf → List (List ℕ) → Scope → ℕ → Ident → DiagOf
+at_name l names c code i = diagnostic (file_of l c) i.at code (text_of names i.id.0 ∷ [])
+
+-- ---- modifiers, by the numbers of their keywords: abstract 0, final 17, private 32, protected 33, public 34, static 37
+
+-- a word stands twice
+abbrev pub has_repeat : List ℕ → Bool
+has_repeat [] = false
+has_repeat (w ∷ ws) = is_written w ws || has_repeat ws
+
+-- two of public, protected and private stand
+abbrev pub has_two_accesses : List ℕ → Bool
+has_two_accesses ws = (is_written 34 ws && is_written 33 ws) || ((is_written 34 ws && is_written 32 ws) || (is_written 33 ws && is_written 32 ws))
+
+-- a word stands that is none of those which may
+abbrev pub has_other : List ℕ → List ℕ → Bool
+has_other allowed ws = list_any (λ w. not (is_written w allowed)) ws
+
+-- the modifiers that may stand at a field, at a method and at a constructor, of an interface or of a class
+abbrev pub of_fields : Bool → List ℕ
+of_fields true = 34 ∷ 37 ∷ 17 ∷ []
+of_fields false = 34 ∷ 33 ∷ 32 ∷ 37 ∷ 17 ∷ []
+
+abbrev pub of_methods : Bool → List ℕ
+of_methods true = 34 ∷ 0 ∷ []
+of_methods false = 34 ∷ 33 ∷ 32 ∷ 37 ∷ 0 ∷ 17 ∷ []
+
+abbrev pub of_ctors : List ℕ
+of_ctors = 34 ∷ 33 ∷ 32 ∷ []
+
+-- whatever stands, a word is there twice, two say the access, or one is not allowed
+abbrev pub are_bad_words : List ℕ → List ℕ → Bool
+are_bad_words allowed ws = has_repeat ws || (has_two_accesses ws || has_other allowed ws)
+
+-- whether a text is `String`
+abbrev pub is_string_text : List ℕ → Bool
+is_string_text text = is_eq (slice_cmp nat_cmp text (83 ∷ 116 ∷ 114 ∷ 105 ∷ 110 ∷ 103 ∷ []))
+
+-- a base is written as a primitive type, or by the simple name `String`
+abbrev pub is_plain_base : List (List ℕ) → BaseTree → Bool
+is_plain_base names boolean = true
+is_plain_base names char = true
+is_plain_base names int = true
+is_plain_base names long = true
+is_plain_base names void = false
+is_plain_base names (named []) = false
+is_plain_base names (named (i ∷ [])) = is_string_text (text_of names i.id.0)
+is_plain_base names (named (i ∷ j ∷ is)) = false
+
+-- a field may be static in an inner class: a static final one with an initializer, whose type is written so, without brackets
+abbrev pub is_constant : List (List ℕ) → List ℕ → TypeTree → VarTree → Bool
+is_constant names ws t v = is_written 17 ws && (is_some v.init && ((t.dims == 0) && is_plain_base names t.base))
+
+-- the modifiers of a field cannot stand
+abbrev pub has_bad_field_words : LayoutOf → List (List ℕ) → Scope → List ℕ → TypeTree → VarTree → Bool
+has_bad_field_words l names c ws t v =
+    are_bad_words (of_fields (is_interface_of l c)) ws || ((is_written 37 ws && not (is_static_of l c)) && not (is_constant names ws t v))
+
+-- those of a method: it may not be abstract and private, static or final
+abbrev pub has_bad_method_words : LayoutOf → Scope → List ℕ → Bool
+has_bad_method_words l c ws =
+    are_bad_words (of_methods (is_interface_of l c)) ws
+    || ((is_written 0 ws && (is_written 32 ws || (is_written 37 ws || is_written 17 ws))) || (is_written 37 ws && not (is_static_of l c)))
+
+-- ---- bodies
+
+-- a method of a class is abstract and has a body, or is not and has none
+abbrev pub has_wrong_body : LayoutOf → Scope → MethodTree → Bool
+has_wrong_body l c m = not (is_interface_of l c) && cond (is_written 0 m.mods) (is_some m.body) (not (is_some m.body))
+
+-- ---- the whole
+
+-- what is wrong with a member of a type that has this name: a second field, method or constructor of a name, modifiers, a body, and the name of a
+-- constructor
+abbrev pub member_diags : LayoutOf → List (List ℕ) → Scope → NameId → Scope → OwnMember → List DiagOf
+member_diags l names c class s (own_field ms t v) =
+    fault_if (is_duplicate l s) (at_name l names c 18 v.name) ++ fault_if (has_bad_field_words l names c ms t v) (at_name l names c 19 v.name)
+member_diags l names c class s (own_method m) =
+    fault_if (is_duplicate l s) (at_name l names c 36 m.name) ++ (fault_if (has_bad_method_words l c m.mods) (at_name l names c 19 m.name) ++ fault_if (has_wrong_body l c m) (at_name l names c 37 m.name))
+member_diags l names c class s (own_ctor k) =
+    fault_if (is_duplicate l s) (diagnostic (file_of l c) k.name.at 11 []) ++ (fault_if (are_bad_words of_ctors k.mods) (at_name l names c 19 k.name) ++ fault_if (not (k.name.id.0 == class.0)) (at_name l names c 42 k.name))
+member_diags l names c class s (default_ctor name) = []

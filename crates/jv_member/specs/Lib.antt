@@ -1,0 +1,13 @@
+pub mod Clashes
+pub mod Constructors
+pub mod Declaration
+pub mod Groups
+pub mod Members
+pub mod Overriding
+pub mod Own
+pub mod Placed
+pub mod Read
+pub mod Signatures
+pub mod MemberDecls
+pub mod Law
+pub mod Bounds

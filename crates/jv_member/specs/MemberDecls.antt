@@ -1,0 +1,13 @@
+-- What contracts see of a member as its declaration has it.
+use Rattle.jv_tree.specs.StmtTree.{var_tree}
+use Rattle.jv_tree.specs.TypeTree.{type_tree}
+use Rattle.jv_tree.specs.DeclTree.{method_tree, ctor_tree}
+use Rattle.jv_member.specs.declared.member_decl.MemberDecl.{MemberDecl}
+use Rattle.jv_member.specs.declared.member_decl.MemberDecl.TheVariants.{Field, Method, Ctor, DefaultCtor}
+use Rattle.jv_member.specs.Own.{OwnMember, own_field, own_method, own_ctor, default_ctor}
+
+abbrev pub own_of : MemberDecl → OwnMember
+own_of (Field ms t v) = own_field ms.now.words.items (type_tree t.now) (var_tree v.now)
+own_of (Method m) = own_method (method_tree m.now)
+own_of (Ctor c) = own_ctor (ctor_tree c.now)
+own_of (DefaultCtor name) = default_ctor name

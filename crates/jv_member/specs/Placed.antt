@@ -1,0 +1,7 @@
+-- What contracts see of a member with its scope.
+use Rattle.jv_member.specs.declared.placed.PlacedDecl.{PlacedDecl}
+use Rattle.jv_member.specs.MemberDecls.{own_of}
+use Rattle.jv_member.specs.Members.{Placed}
+
+abbrev pub placed_of : PlacedDecl → Placed
+placed_of p = (p.scope, own_of p.member)

@@ -1,0 +1,34 @@
+//! The members of types: which a declaration has, what their signatures are, and what is wrong with their declarations
+//! (JLS 8.3, 8.4, 8.8, 9.3, 9.4).
+//!
+//! The signature of a member is a rule over replies: it reads the types that are written in it, in order. `specs/Own.antt`
+//! says which members a declaration has, `specs/Signatures.antt` what their signatures are, `specs/Declaration.antt` what is wrong
+//! with a declaration itself. No unit is known here: what is read stands on replies alone.
+#![tactic(auto)]
+
+mod above;
+mod clash;
+mod codes;
+mod constructors;
+mod declaring;
+mod diag_lists;
+pub mod laws;
+mod groups;
+mod inherited;
+mod meeting;
+mod member_decl;
+mod members;
+mod pairs;
+mod placed;
+mod read;
+mod results;
+mod signature;
+mod signature_types;
+mod superclass;
+mod whole_methods;
+mod written_types;
+
+pub use declaring::member_diags;
+pub use member_decl::{MemberDecl, own_members};
+pub use members::{check_members, read_members};
+pub use signature::{Signature, read_signature, resolve_signature};

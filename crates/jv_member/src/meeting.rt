@@ -1,0 +1,256 @@
+//! Methods of one name that meet in a type.
+
+ghost use Rattle.std.specs.Prelude.{◌≡◌, option_copied};
+ghost use Rattle.std.specs.List.{filter};
+ghost use Rattle.sg_reading.specs.Reading.{each};
+ghost use Rattle.sg_reading.specs.Stop.{Reads};
+ghost use Rattle.jv_names.specs.Replies.{reply_to};
+ghost use Rattle.jv_member.specs.Read.{result_fits};
+ghost use Rattle.jv_member.specs.Overriding.{is_owner, declares_one, first_concrete, meets, is_other, concrete_codes, fits_each, some_fits, abstract_codes, met_codes, meeting_codes, meeting};
+
+use crate::clash::{Clash, ClashKind};
+use crate::codes::Codes;
+use crate::pairs::read_meeting_code;
+use crate::results::read_result_fits;
+use crate::signature_types::ReadSignature;
+use crate::whole_methods::{
+    WholeMethod, params_differ, read_signatures, signature_among, whole_methods,
+};
+use jv_instance::JavaPred;
+use jv_layout::Layout;
+use jv_names::Oracle;
+use sg_base::Scope;
+use sg_query::Query;
+use sg_reading::Stop;
+use std::alloc::Global;
+
+/// Whether a type is the owner of a member.
+fn is_owner(ty: Scope, owner: Option<Scope>) -> bool
+    ensures { result ≡ is_owner ty owner }
+{
+    match owner {
+        None => false,
+        Some(other) => ty == other,
+    }
+}
+
+/// Whether a type declares one of the methods.
+fn declares_one(l: &Layout, ty: Scope, methods: &[Scope]) -> bool
+    ensures { result ≡ declares_one l.now ty methods.now }
+{
+    methods
+        .iter()
+        .any(|method| is_owner(ty, l.owner(*method)))
+}
+
+/// The first method that is not abstract.
+fn first_concrete(l: &Layout, methods: &[Scope]) -> Option<Scope>
+    ensures { result ≡ first_concrete l.now methods.now }
+{
+    for method in methods {
+        if !l.is_abstract(*method) {
+            return Some(*method);
+        }
+    }
+    None
+}
+
+/// Whether a method is another one.
+fn is_other(method: Scope, other: &WholeMethod) -> bool
+    ensures { result ≡ is_other method other.now }
+{
+    method != other.scope
+}
+
+/// What is wrong with another method where one stands for both.
+fn read_meets(
+    l: &Layout,
+    o: &Oracle,
+    method: Scope,
+    signature: &ReadSignature,
+    other: &WholeMethod,
+) -> Result<Option<Clash>, Stop<Query<JavaPred>>>
+    ensures { Reads (reply_to o.now) (meets l.now method signature.now other.now) result }
+{
+    read_meeting_code(l, o, method, other.scope, signature, &other.signature)
+}
+
+/// Whether a result fits that of a method.
+fn read_fits(
+    l: &Layout,
+    o: &Oracle,
+    signature: &ReadSignature,
+    other: &WholeMethod,
+) -> Result<bool, Stop<Query<JavaPred>>>
+    ensures { Reads (reply_to o.now) (result_fits l.now signature.now.result other.now.1.result) result }
+{
+    read_result_fits(l, o, signature.result, other.signature.result)
+}
+
+/// What is wrong with each of the other methods where one stands for all.
+#[tactic(auto, using(crate::proofs::MeetingSteps::meeting_steps))]
+fn read_each_meets(
+    alloc: Global,
+    l: &Layout,
+    o: &Oracle,
+    method: Scope,
+    signature: &ReadSignature,
+    methods: &[WholeMethod],
+) -> Result<Codes, Stop<Query<JavaPred>>>
+    ensures { Reads (reply_to o.now) (each (meets l.now method signature.now) (filter (is_other method) methods.now)) result }
+{
+    let mut codes = Codes::empty(alloc);
+    for other in methods {
+        if is_other(method, other) {
+            let code = read_meets(l, o, method, signature, other)?;
+            codes = codes.with(code)?;
+        }
+    }
+    Ok(codes)
+}
+
+/// What is wrong where a method that is not abstract stands for all others.
+#[tactic(auto, using(crate::proofs::MeetingSteps::meeting_steps))]
+fn read_concrete_codes(
+    alloc: Global,
+    l: &Layout,
+    o: &Oracle,
+    method: Scope,
+    signature: Option<&ReadSignature>,
+    methods: &[WholeMethod],
+) -> Result<Codes, Stop<Query<JavaPred>>>
+    ensures { Reads (reply_to o.now) (concrete_codes l.now method (option_copied signature.entry) methods.now) result }
+{
+    match signature {
+        None => Ok(Codes::empty(alloc)),
+        Some(signature) => read_each_meets(alloc, l, o, method, signature, methods),
+    }
+}
+
+/// Whether a result fits that of each of some methods.
+#[tactic(auto, using(crate::proofs::MeetingSteps::meeting_steps))]
+fn read_fits_each(
+    l: &Layout,
+    o: &Oracle,
+    signature: &ReadSignature,
+    methods: &[WholeMethod],
+) -> Result<bool, Stop<Query<JavaPred>>>
+    ensures { Reads (reply_to o.now) (fits_each l.now signature.now methods.now) result }
+{
+    for other in methods {
+        if !read_fits(l, o, signature, other)? {
+            return Ok(false);
+        }
+    }
+    Ok(true)
+}
+
+/// Whether the result of a method fits that of each of some methods.
+fn read_fits_all(
+    l: &Layout,
+    o: &Oracle,
+    method: &WholeMethod,
+    methods: &[WholeMethod],
+) -> Result<bool, Stop<Query<JavaPred>>>
+    ensures { Reads (reply_to o.now) (fits_each l.now method.now.1 methods.now) result }
+{
+    read_fits_each(l, o, &method.signature, methods)
+}
+
+/// Whether the result of one of the methods fits those of all.
+#[tactic(auto, using(crate::proofs::MeetingSteps::meeting_steps))]
+fn read_some_fits(
+    l: &Layout,
+    o: &Oracle,
+    methods: &[WholeMethod],
+) -> Result<bool, Stop<Query<JavaPred>>>
+    ensures { Reads (reply_to o.now) (some_fits l.now methods.now methods.now) result }
+{
+    for method in methods {
+        if read_fits_all(l, o, method, methods)? {
+            return Ok(true);
+        }
+    }
+    Ok(false)
+}
+
+/// What is wrong where all methods are abstract.
+#[tactic(auto, using(crate::proofs::MeetingSteps::meeting_steps))]
+fn read_abstract_codes(
+    alloc: Global,
+    l: &Layout,
+    o: &Oracle,
+    methods: &[Scope],
+    whole: &[WholeMethod],
+) -> Result<Codes, Stop<Query<JavaPred>>>
+    ensures { Reads (reply_to o.now) (abstract_codes l.now methods.now whole.now) result }
+{
+    let codes = Codes::empty(alloc);
+    if whole.len() != methods.len() {
+        return Ok(codes);
+    }
+    if read_some_fits(l, o, whole)? {
+        Ok(codes)
+    } else {
+        codes.with(Some(Clash::new(ClashKind::Result)))
+    }
+}
+
+/// What is wrong with methods that have the same parameters.
+#[tactic(auto, using(crate::proofs::MeetingSteps::meeting_steps))]
+fn read_met_codes(
+    alloc: Global,
+    l: &Layout,
+    o: &Oracle,
+    methods: &[Scope],
+    whole: &[WholeMethod],
+) -> Result<Codes, Stop<Query<JavaPred>>>
+    ensures { Reads (reply_to o.now) (met_codes l.now methods.now (first_concrete l.now methods.now) whole.now) result }
+{
+    match first_concrete(l, methods) {
+        None => read_abstract_codes(alloc, l, o, methods, whole),
+        Some(method) => {
+            let signature = signature_among(method, whole);
+            read_concrete_codes(alloc, l, o, method, signature, whole)
+        }
+    }
+}
+
+/// What is wrong with several methods of one name, by their signatures.
+#[tactic(auto, using(crate::proofs::MeetingSteps::meeting_steps))]
+fn read_meeting_codes(
+    alloc: Global,
+    l: &Layout,
+    o: &Oracle,
+    methods: &[Scope],
+    whole: &[WholeMethod],
+) -> Result<Codes, Stop<Query<JavaPred>>>
+    ensures { Reads (reply_to o.now) (meeting_codes l.now methods.now whole.now) result }
+{
+    if params_differ(whole) {
+        return Codes::empty(alloc).with(Some(Clash::new(ClashKind::Params)));
+    }
+    read_met_codes(alloc, l, o, methods, whole)
+}
+
+/// What is wrong with the methods of one name that meet in a type (JLS 8.4.8.4, 9.4.1.3), as far as the replies tell it, or the
+/// first query that has no reply: nothing where the type declares one of them. Else other parameters than those of the first;
+/// else each method is compared with the first that is not abstract; and where all are abstract, the result of one of them has to
+/// fit all. Methods with bad types are passed over. It takes the time of the answers, and of comparing each pair of results.
+#[tactic(auto, using(crate::proofs::MeetingSteps::meeting_steps), unfolding(crate::specs::Overriding::meeting))]
+pub fn read_meeting(
+    alloc: Global,
+    l: &Layout,
+    o: &Oracle,
+    ty: Scope,
+    methods: &[Scope],
+) -> Result<Codes, Stop<Query<JavaPred>>>
+    ensures { Reads (reply_to o.now) (meeting l.now ty methods.now) result }
+{
+    if declares_one(l, ty, methods) || methods.len() < 2 {
+        return Ok(Codes::empty(alloc));
+    }
+    let signatures = read_signatures(alloc, l, o, methods)?;
+    let whole = whole_methods(alloc, methods, signatures)?;
+    read_meeting_codes(alloc, l, o, methods, whole.as_slice())
+}
