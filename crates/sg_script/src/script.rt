@@ -39,6 +39,7 @@ pub trait Script: Drop {
 
     /// How many stages there are.
     fn stage_count(&self) -> usize
+        requires { is_ready self.now }
         ensures { result ≡ length (plan self.now).stages };
 
     /// Adds the reply to a query that has none.
