@@ -1,3 +1,13 @@
-pub mod Places
-pub mod Trees
 pub mod Folders
+pub mod MemberPlaces
+pub mod NewUnits
+pub mod Numbers
+pub mod OwnMembers
+pub mod Owns
+pub mod Places
+pub mod Putting
+pub mod Sound
+pub mod Steps
+pub mod Trees
+pub mod UnitRules
+pub mod Writes

@@ -38,7 +38,7 @@ skips path i (ctor c) xs e = refl
 
 -- what is left of a body, from one of its members on
 module _ (path : List ℕ) (xs : List Member) (i : ℕ) (m : Member) (h : i < length xs) (here : get_or xs i m ≡ m) where
-  rest_is : member_trees (drop i xs) ≡ members (member_tree m) (member_trees (drop (i + 1) xs))
+  pub rest_is : member_trees (drop i xs) ≡ members (member_tree m) (member_trees (drop (i + 1) xs))
   rest_is = ap member_trees (drop_here xs i m h) ∙ ap (λ x. members (member_tree x) (member_trees (drop (i + 1) xs))) here
 
   pub skipped : decl_of (member_tree m) ≡ None → body_paths path i (member_trees (drop i xs)) ≡ body_paths path (i + 1) (member_trees (drop (i + 1) xs))
@@ -178,7 +178,7 @@ module _ (units : List UnitTree) where
 
 -- ---- paths from the files themselves
 
-get_within : {X : Type 0} (xs : List X) (i : ℕ) → IsSome (slice_get xs i) → i < length xs
+pub get_within : {X : Type 0} (xs : List X) (i : ℕ) → IsSome (slice_get xs i) → i < length xs
 get_within [] i h = absurd (cc)
 get_within (x ∷ xs) zero h = omega arith
 get_within (x ∷ xs) (suc i) h = let r = get_within xs i h in omega arith

@@ -7,6 +7,7 @@ use Rattle.jv_tree.specs.DeclTree.{TypeDeclTree, type_decl, nested, field, metho
 use Rattle.jv_layout.specs.declared.rows.Modifiers.{Modifiers}
 use Rattle.jv_layout.specs.declared.rows.TypeRow.{TypeRow}
 use Rattle.jv_layout.specs.Folder.{modifiers_of, decl_count, decl_types, body_types, file_types, file_count, types_from}
+use Rattle.jv_layout.proofs.Collecting.{length-decl_types, length-file_types}
 use Rattle.jv_unit.specs.Trees.{decls_in, body_decls, all_decls, decl_at, no_decl, name_of, mods_of, is_interface}
 
 -- what a row says of a type by itself: its name, its modifiers, whether it is an interface
@@ -50,6 +51,13 @@ heads_from f n (u ∷ us) =
     ∙ (ap (λ hs. hs ++ map row_head (types_from (f + 1) (n + file_count u.types) us)) (file_heads f n u.types)
     ∙ (ap (λ hs. map decl_head (flat_map decls_in u.types) ++ hs) (heads_from (f + 1) (n + file_count u.types) us)
     ∙ sym (map-append decl_head (flat_map decls_in u.types) (all_decls us))))
+
+-- how many declarations nest in one, itself counted, and how many a file has
+pub length-decls_in : (d : TypeDeclTree) → length (decls_in d) ≡ decl_count d
+length-decls_in d = sym (length-map (decls_in d) decl_head) ∙ (ap length (sym (heads_in 0 None 0 0 d)) ∙ (length-map (decl_types 0 None 0 0 d) row_head ∙ length-decl_types 0 None 0 0 d))
+
+pub length-file_decls : (ds : List TypeDeclTree) → length (flat_map decls_in ds) ≡ file_count ds
+length-file_decls ds = sym (length-map (flat_map decls_in ds) decl_head) ∙ (ap length (sym (file_heads 0 0 ds)) ∙ (length-map (file_types 0 0 ds) row_head ∙ length-file_types 0 0 ds))
 
 -- there are as many types as declarations
 pub types_of_decls : (units : List UnitTree) → length (all_decls units) ≡ length (types_from 0 0 units)

@@ -3,6 +3,7 @@ use Rattle.std.specs.Prelude.{◌≡◌, map}
 use Rattle.jv_tree.specs.DeclTree.{tree_of}
 use Rattle.jv_unit.specs.declared.folder.Folder.{Folder}
 use Rattle.jv_unit.specs.Folder.{FolderOf, IsFolderOf}
+use Rattle.jv_unit.specs.MemberPlaces.{places_from}
 use Rattle.jv_unit.specs.Paths.{ArePathsOf}
 
 -- what rules see of a folder
@@ -14,3 +15,4 @@ pub record IsWhole (w : Folder) : Type 0 where
   pub folder : IsFolderOf (folder_of w)
   pub declarations : w.declarations ≡ w.layout
   pub paths : ArePathsOf (map tree_of w.files.items) w.paths
+  pub members : w.members.places.items ≡ places_from 0 (map tree_of w.files.items)

@@ -1,15 +1,17 @@
 -- What the units of files and of types do: in stages, which rows they write, and what they come to.
-use Rattle.std.specs.Prelude.{ℕ, ◌+◌, ◌-◌, nat_lt, cond, List, [], ◌∷◌, ◌++◌, length}
+use Rattle.std.specs.Prelude.{ℕ, ◌-◌, nat_lt, cond, List, [], ◌∷◌, ◌++◌, length, map}
 use Rattle.sg_base.specs.declared.scope.Scope.{Scope}
 use Rattle.sg_base.specs.Graph.{Edge}
 use Rattle.sg_reading.specs.Reading.{done, and_then}
-use Rattle.sg_script.specs.Script.{Plan, Stage, row_stage, edges_stage}
+use Rattle.sg_script.specs.Script.{Plan, Stage, datum_stage, row_stage, edges_stage}
 use Rattle.sg_state.specs.Opening.{opened_of}
 use Rattle.jv_diag.specs.Plain.{DiagOf}
 use Rattle.jv_instance.specs.declared.datum.JavaDatum.{JavaDatum}
 use Rattle.jv_instance.specs.declared.pred.JavaPred.{JavaPred}
 use Rattle.jv_instance.specs.declared.labels.TheConstants.{SIMP, ODI, EXT}
-use Rattle.jv_layout.specs.Scopes.{file_scope, type_scope}
+use Rattle.jv_layout.specs.Folder.{LayoutOf}
+use Rattle.jv_layout.specs.Readers.{members_of_type}
+use Rattle.jv_layout.specs.Scopes.{file_scope, member_scope, signature_of_member, type_scope}
 use Rattle.jv_layout.specs.Skeleton.{skeleton_of}
 use Rattle.jv_names.specs.Replies.{Rule}
 use Rattle.jv_header.specs.declared.header.Header.{Header}
@@ -17,8 +19,12 @@ use Rattle.jv_header.specs.Declaration.{declared_diags}
 use Rattle.jv_header.specs.Depends.{depends_rule}
 use Rattle.jv_header.specs.Header.{header_rule, header_row}
 use Rattle.jv_header.specs.Imports.{imports_rule, import_edges}
-use Rattle.jv_tree.specs.DeclTree.{TypeDeclTree}
+use Rattle.jv_member.specs.declared.signature.Signature.{Signature}
+use Rattle.jv_member.specs.Declaration.{member_diags}
+use Rattle.jv_member.specs.Signatures.{signature_rule}
+use Rattle.jv_tree.specs.declared.names.NameId.{NameId}
 use Rattle.jv_unit.specs.Folder.{FolderOf, java_preds}
+use Rattle.jv_unit.specs.Owns.{own_at}
 use Rattle.jv_unit.specs.Trees.{decl_at, unit_at, name_of, mods_of, extends_of, implements_of}
 
 abbrev pub JavaPlan : Type 0
@@ -34,20 +40,17 @@ file_edges w f = and_then (imports_rule w.layout w.names f (unit_at w.files f)) 
 abbrev pub file_ending : FolderOf → ℕ → Rule (List DiagOf)
 file_ending w f = and_then (imports_rule w.layout w.names f (unit_at w.files f)) (λ i. done i.diags)
 
+-- the rows of a file that its unit writes
+abbrev pub file_rows : LayoutOf → ℕ → List (Scope × ℕ)
+file_rows l f = (file_scope l f, SIMP) ∷ (file_scope l f, ODI) ∷ []
+
 -- the one stage of a file: its imports
 abbrev pub file_stage : FolderOf → ℕ → Stage JavaDatum JavaPred
-file_stage w f = edges_stage ((file_scope w.layout f, SIMP) ∷ (file_scope w.layout f, ODI) ∷ []) (file_edges w f)
+file_stage w f = edges_stage (file_rows w.layout f) (file_edges w f)
 
--- the unit of a file writes its imports, and comes to their diagnostics
-abbrev pub file_plan : FolderOf → ℕ → JavaPlan
-file_plan w f = record {
-  unit = f;
-  opening = opened_of (skeleton_of w.layout);
-  kinds = w.kinds;
-  preds = java_preds w.names;
-  stages = file_stage w f ∷ [];
-  ending = file_ending w f;
-}
+-- the stages of a file
+abbrev pub file_stages : FolderOf → ℕ → List (Stage JavaDatum JavaPred)
+file_stages w f = file_stage w f ∷ []
 
 -- ---- types
 
@@ -55,33 +58,72 @@ file_plan w f = record {
 abbrev pub type_row : FolderOf → ℕ → Rule (List Scope)
 type_row w t = header_row w.layout w.names (type_scope w.layout t) (extends_of (decl_at w.files t)) (implements_of (decl_at w.files t))
 
--- the diagnostics of a type whose header is known: of its header, of its dependence on itself, and of its declaration
-abbrev pub behind_header : FolderOf → Scope → TypeDeclTree → Header → Rule (List DiagOf)
-behind_header w c d h =
-    and_then (depends_rule w.layout w.names c (name_of d) h.row) (λ ds. done ((h.diags ++ ds) ++ declared_diags w.layout w.names c (name_of d) (mods_of d)))
+-- ---- the members of a type
 
--- the diagnostics of a type
-abbrev pub diags_of_type : FolderOf → Scope → TypeDeclTree → Rule (List DiagOf)
-diags_of_type w c d = and_then (header_rule w.layout w.names c (extends_of d) (implements_of d)) (behind_header w c d)
+-- the name of a type
+abbrev pub class_of : FolderOf → ℕ → NameId
+class_of w t = (name_of (decl_at w.files t)).id
+
+-- the signature of the member with a number, which a type declares
+abbrev pub member_signature : FolderOf → ℕ → ℕ → Rule Signature
+member_signature w t m = signature_rule w.layout w.names (type_scope w.layout t) (class_of w t) (own_at w.files m)
+
+-- a stage for a member: the datum of its signature
+abbrev pub signature_datum : FolderOf → ℕ → ℕ → Rule JavaDatum
+signature_datum w t m = and_then (member_signature w t m) (λ s. done s.datum)
+
+abbrev pub signature_stage : FolderOf → ℕ → ℕ → Stage JavaDatum JavaPred
+signature_stage w t m = datum_stage (signature_of_member w.layout m) (signature_datum w t m)
+
+-- the diagnostics of a member: of its declaration, and of the types in its signature
+abbrev pub member_part : FolderOf → ℕ → ℕ → Rule (List DiagOf)
+member_part w t m =
+    and_then (member_signature w t m) (λ s. done (member_diags w.layout w.names (type_scope w.layout t) (class_of w t) (member_scope w.layout m) (own_at w.files m) ++ s.diags))
+
+-- the diagnostics of some members behind those so far
+unfoldable pub with_parts : FolderOf → ℕ → List DiagOf → List ℕ → Rule (List DiagOf)
+with_parts w t ds [] = done ds
+with_parts w t ds (m ∷ ms) = and_then (member_part w t m) (λ p. with_parts w t (ds ++ p) ms)
+
+-- ---- the diagnostics of a type
+
+-- the diagnostics of a type itself, whose header and dependence are known
+abbrev pub type_part : FolderOf → ℕ → Header → List DiagOf → List DiagOf
+type_part w t h ds = (h.diags ++ ds) ++ declared_diags w.layout w.names (type_scope w.layout t) (name_of (decl_at w.files t)) (mods_of (decl_at w.files t))
+
+-- the diagnostics of a type whose header is known: of its header, of its dependence on itself, of its declaration, and of its members
+abbrev pub behind_header : FolderOf → ℕ → Header → Rule (List DiagOf)
+behind_header w t h = and_then (depends_rule w.layout w.names (type_scope w.layout t) (name_of (decl_at w.files t)) h.row) (λ ds. with_parts w t (type_part w t h ds) (members_of_type w.layout t))
 
 abbrev pub type_ending : FolderOf → ℕ → Rule (List DiagOf)
-type_ending w t = diags_of_type w (type_scope w.layout t) (decl_at w.files t)
+type_ending w t = and_then (header_rule w.layout w.names (type_scope w.layout t) (extends_of (decl_at w.files t)) (implements_of (decl_at w.files t))) (behind_header w t)
 
--- the one stage of a type: its supertypes
+-- the first stage of a type: its supertypes
 abbrev pub type_stage : FolderOf → ℕ → Stage JavaDatum JavaPred
 type_stage w t = row_stage (type_scope w.layout t) EXT (type_row w t)
 
--- the unit of a type writes its supertypes, and comes to its diagnostics; the units of types stand behind those of files
-abbrev pub type_plan : FolderOf → ℕ → JavaPlan
-type_plan w t = record {
-  unit = length w.layout.files + t;
+-- the stages of a type: its supertypes, and then the signature of each member
+abbrev pub type_stages : FolderOf → ℕ → List (Stage JavaDatum JavaPred)
+type_stages w t = type_stage w t ∷ map (signature_stage w t) (members_of_type w.layout t)
+
+-- ---- units
+
+-- the stages of the unit with a number: the units of types stand behind those of files
+abbrev pub unit_stages : FolderOf → ℕ → List (Stage JavaDatum JavaPred)
+unit_stages w u = cond (nat_lt u (length w.layout.files)) (file_stages w u) (type_stages w (u - length w.layout.files))
+
+-- what the unit with a number comes to
+abbrev pub unit_ending : FolderOf → ℕ → Rule (List DiagOf)
+unit_ending w u = cond (nat_lt u (length w.layout.files)) (file_ending w u) (type_ending w (u - length w.layout.files))
+
+-- the unit of a file writes its imports, and comes to their diagnostics; the unit of a type writes its supertypes and the signatures of its members,
+-- and comes to its diagnostics
+abbrev pub java_plan : FolderOf → ℕ → JavaPlan
+java_plan w u = record {
+  unit = u;
   opening = opened_of (skeleton_of w.layout);
   kinds = w.kinds;
   preds = java_preds w.names;
-  stages = type_stage w t ∷ [];
-  ending = type_ending w t;
+  stages = unit_stages w u;
+  ending = unit_ending w u;
 }
-
--- the plan of the unit with a number
-abbrev pub java_plan : FolderOf → ℕ → JavaPlan
-java_plan w u = cond (nat_lt u (length w.layout.files)) (file_plan w u) (type_plan w (u - length w.layout.files))

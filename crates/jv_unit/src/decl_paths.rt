@@ -25,7 +25,7 @@ impl Model for DeclPaths {
 }
 
 /// A place as a step of a path. One that is past all numbers finds no memory.
-fn step(place: usize) -> Result<u32, AllocError>
+pub(crate) fn step(place: usize) -> Result<u32, AllocError>
     ensures { IfOk result (λ n. n ≡ place) }
 {
     if place > u32::MAX as usize {

@@ -2,13 +2,17 @@
 
 ghost use Rattle.std.specs.Prelude.{◌≡◌, ◌+◌, ◌<◌, ◌^◌, length, map, IfOk};
 ghost use Rattle.jv_layout.specs.Scopes.{type_scope};
+ghost use Rattle.jv_member.specs.MemberDecls.{own_of};
 ghost use Rattle.jv_tree.specs.DeclTree.{tree_of, type_decl_tree};
 ghost use Rattle.jv_unit.specs.Folder.{IsFolderOf};
 ghost use Rattle.jv_unit.specs.Kept.{folder_of, IsWhole};
+ghost use Rattle.jv_unit.specs.Owns.{own_at};
 ghost use Rattle.jv_unit.specs.Trees.{decl_at, unit_at};
 
 use crate::decl_paths::DeclPaths;
+use crate::member_places::{MemberPlaces, member_at};
 use jv_layout::{Declarations, Layout};
+use jv_member::MemberDecl;
 use jv_tree::{Names, TypeDecl, Unit};
 use sg_base::Scope;
 use sg_query::KindTable;
@@ -24,12 +28,13 @@ pub struct Folder {
     names: Names,
     files: Vec<Unit>,
     paths: DeclPaths,
+    members: MemberPlaces,
     kinds: Snapshot<KindTable>,
 }
 
 impl Folder {
     /// The folder of a layout, with the names and the files that it was made of, and a table of Java's kinds. It takes time in the
-    /// number of declarations and how deep they nest.
+    /// number of declarations and how deep they nest, and in the members.
     pub fn new(
         alloc: Global,
         layout: Layout,
@@ -43,12 +48,14 @@ impl Folder {
     {
         let declarations = layout.declarations(alloc)?;
         let paths = DeclPaths::of(alloc, &files)?;
+        let members = MemberPlaces::of(alloc, &files)?;
         Ok(Folder {
             layout,
             declarations,
             names,
             files,
             paths,
+            members,
             kinds: Snapshot::of(kinds),
         })
     }
@@ -122,5 +129,15 @@ impl Folder {
         ensures { type_decl_tree result.now ≡ decl_at (folder_of self.now).files t }
     {
         self.paths.decl(&self.files, t)
+    }
+
+    /// The declaration of the member with a number, in the time of how deep its type nests.
+    pub(crate) fn member(&self, m: u32) -> MemberDecl<'_>
+        requires whole { IsWhole self.now }
+        requires within { m < length self.now.layout.members }
+        ensures { own_of result ≡ own_at (folder_of self.now).files m }
+    {
+        let place = self.members.at(m);
+        member_at(self.decl(place.owner), place.place)
     }
 }

@@ -2,11 +2,21 @@
 //!
 //! What each does is a plan (`specs/Plans.antt`), a list of stages that are rules over replies: the unit of a file reads its
 //! imports, writes the edges that they give, and comes to their diagnostics; the unit of a type reads its header, writes its
-//! supertypes, and comes to the diagnostics of its header and its declaration. All units of a folder share its layout, names and
-//! trees (`Folder`). The scripts that follow these plans are not there yet.
+//! supertypes and then the signature of each member, and comes to the diagnostics of its header, its declaration and its members. All units of a folder share its layout, names and
+//! trees (`Folder`). `java_units` makes them: each follows the script of its number (`JavaScript`), so it asks what its rules ask
+//! and gives what they give, and no unit is written by hand.
 #![tactic(auto)]
 
 mod decl_paths;
+mod file_rules;
 mod folder;
+mod java_script;
+mod member_places;
+mod member_rules;
+mod type_rules;
+mod unit_rules;
+mod units;
 
 pub use folder::Folder;
+pub use java_script::JavaScript;
+pub use units::{JavaUnit, java_units};

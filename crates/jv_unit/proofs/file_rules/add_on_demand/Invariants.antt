@@ -1,0 +1,7 @@
+use Rattle.std.proofs.Common.{◌≡◌, ◌++◌, map, take}
+use Rattle.jv_instance.specs.declared.labels.TheConstants.{ODI}
+use Rattle.sg_script.specs.declared.write.Write.TheVariants.{AddEdge}
+use Rattle.jv_unit.proofs.file_rules.add_on_demand.Given as goal
+
+abbrev pub invariant-loop-to : goal.invariant-loop-to
+invariant-loop-to l = l.writes ≡ l.initial.writes ++ map (λ s. AddEdge l.from ODI s) (take l.to-index l.on_demand)

@@ -1,0 +1,120 @@
+//! What the unit of a file reads and writes.
+
+ghost use Rattle.std.specs.Prelude.{◌≡◌, ◌<◌, ◌^◌, ◌++◌, length, map, OnOk, MatchResult};
+ghost use Rattle.sg_reading.specs.Stop.{Reads};
+ghost use Rattle.sg_reading.specs.declared.stop.Stop.TheVariants.{OutOfMemory};
+ghost use Rattle.sg_script.specs.Script.{edge_writes};
+ghost use Rattle.sg_script.specs.declared.write.Write.TheVariants.{AddEdge};
+ghost use Rattle.jv_instance.specs.declared.labels.TheConstants.{SIMP, ODI};
+ghost use Rattle.jv_header.specs.Imports.{import_edges};
+ghost use Rattle.jv_names.specs.Replies.{reply_to};
+ghost use Rattle.jv_unit.specs.Kept.{folder_of, IsWhole};
+ghost use Rattle.jv_unit.specs.Plans.{file_rows, file_stage, file_ending};
+
+use crate::folder::Folder;
+use jv_diag::DiagList;
+use jv_header::{FileImports, read_imports};
+use jv_instance::{JavaDatum, JavaPred, labels};
+use jv_layout::Layout;
+use jv_names::Oracle;
+use jv_tree::NameId;
+use sg_base::{Label, Scope};
+use sg_query::Query;
+use sg_reading::Stop;
+use sg_script::{Write, Writes};
+use std::alloc::{AllocError, Global};
+
+/// Adds the edges of single imports.
+fn add_singles(
+    writes: &mut Writes<JavaDatum>,
+    from: Scope,
+    singles: &[(NameId, Scope)],
+) -> Result<(), AllocError>
+    ensures { OnOk result (writes.new ≡ writes.old ++ map (λ p. AddEdge from SIMP p.1) singles.now) }
+{
+    for (_, to) in singles {
+        writes.push(Write::AddEdge {
+            from,
+            label: Label::new(labels::SIMP),
+            to: *to,
+        })?;
+    }
+    Ok(())
+}
+
+/// Adds the edges of imports on demand.
+fn add_on_demand(
+    writes: &mut Writes<JavaDatum>,
+    from: Scope,
+    on_demand: &[Scope],
+) -> Result<(), AllocError>
+    ensures { OnOk result (writes.new ≡ writes.old ++ map (λ s. AddEdge from ODI s) on_demand.now) }
+{
+    for to in on_demand {
+        writes.push(Write::AddEdge {
+            from,
+            label: Label::new(labels::ODI),
+            to: *to,
+        })?;
+    }
+    Ok(())
+}
+
+/// The writes of a file, by what its imports give.
+fn import_writes(
+    alloc: Global,
+    l: &Layout,
+    file: u32,
+    imports: &FileImports,
+) -> Result<Writes<JavaDatum>, Stop<Query<JavaPred>>>
+    requires { file < 2 ^ 31 }
+    ensures { MatchResult result
+        (λ ws. ws ≡ edge_writes (file_rows l.now file) (import_edges l.now file imports.now))
+        (λ stop. stop ≡ OutOfMemory) }
+{
+    let from = l.file_scope(file);
+    let mut writes = Writes::new(alloc);
+    add_singles(&mut writes, from, imports.singles())?;
+    add_on_demand(&mut writes, from, imports.on_demand())?;
+    writes.push(Write::CloseRow {
+        scope: from,
+        label: Label::new(labels::SIMP),
+    })?;
+    writes.push(Write::CloseRow {
+        scope: from,
+        label: Label::new(labels::ODI),
+    })?;
+    Ok(writes)
+}
+
+/// The writes of the unit of a file as far as the replies tell them, or the first query that has no reply.
+#[tactic(auto, using(crate::proofs::Folders::folder_facts))]
+pub(crate) fn read_file(
+    alloc: Global,
+    w: &Folder,
+    o: &Oracle,
+    file: u32,
+) -> Result<Writes<JavaDatum>, Stop<Query<JavaPred>>>
+    requires whole { IsWhole w.now }
+    requires within { file < length w.now.layout.files }
+    ensures { Reads (reply_to o.now) (file_stage (folder_of w.now) file).rule result }
+{
+    let imports = read_imports(alloc, w.layout(), w.names(), o, file, w.file(file))?;
+    import_writes(alloc, w.layout(), file, &imports)
+}
+
+/// The diagnostics of a file as far as the replies tell them, or the first query that has no reply.
+#[tactic(auto, using(crate::proofs::Folders::folder_facts))]
+pub(crate) fn finish_file(
+    alloc: Global,
+    w: &Folder,
+    o: &Oracle,
+    file: u32,
+) -> Result<DiagList, Stop<Query<JavaPred>>>
+    requires whole { IsWhole w.now }
+    requires within { file < length w.now.layout.files }
+    ensures { Reads (reply_to o.now) (file_ending (folder_of w.now) file) result }
+{
+    let imports = read_imports(alloc, w.layout(), w.names(), o, file, w.file(file))?;
+    Ok(imports.into_diags())
+}

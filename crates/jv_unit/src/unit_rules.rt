@@ -1,0 +1,95 @@
+//! What the unit with a number reads and writes: of a file, or behind the files of a type.
+
+ghost use Rattle.std.specs.Prelude.{◌≡◌, ◌+◌, ◌<◌, length};
+ghost use Rattle.std.specs.List.{slice_get};
+ghost use Rattle.sg_reading.specs.Stop.{Reads};
+ghost use Rattle.jv_names.specs.Replies.{reply_to};
+ghost use Rattle.jv_unit.specs.Kept.{folder_of, IsWhole};
+ghost use Rattle.jv_unit.specs.Plans.{type_stages, unit_ending, unit_stages};
+ghost use Rattle.jv_unit.specs.Scripts.{ReadsStageOf};
+
+use crate::file_rules::{finish_file, read_file};
+use crate::folder::Folder;
+use crate::member_rules::{member_count, read_datum};
+use crate::type_rules::{finish_type, read_type};
+use jv_diag::DiagList;
+use jv_instance::{JavaDatum, JavaPred};
+use jv_names::Oracle;
+use sg_query::Query;
+use sg_reading::Stop;
+use sg_script::Writes;
+use std::alloc::Global;
+
+/// How many stages the unit with a number has.
+pub(crate) fn stage_count(w: &Folder, unit: u32) -> usize
+    requires whole { IsWhole w.now }
+    requires within { unit < length w.now.layout.files + length w.now.layout.types }
+    ensures { result ≡ length (unit_stages (folder_of w.now) unit) }
+{
+    let files = w.file_count();
+    if unit < files {
+        1
+    } else {
+        member_count(w, unit - files) + 1
+    }
+}
+
+/// The writes of a stage of the unit of a type: of its supertypes, or of the signature of a member.
+fn read_type_stage(
+    alloc: Global,
+    w: &Folder,
+    o: &Oracle,
+    t: u32,
+    stage: usize,
+) -> Result<Writes<JavaDatum>, Stop<Query<JavaPred>>>
+    requires whole { IsWhole w.now }
+    requires within { t < length w.now.layout.types }
+    requires stage { stage < length (type_stages (folder_of w.now) t) }
+    ensures { ReadsStageOf (reply_to o.now) (type_stages (folder_of w.now) t) stage result }
+{
+    if stage == 0 {
+        read_type(alloc, w, o, t)
+    } else {
+        read_datum(alloc, w, o, t, stage - 1)
+    }
+}
+
+/// The writes of a stage of a unit as far as the replies tell them, or the first query that has no reply.
+pub(crate) fn read_unit(
+    alloc: Global,
+    w: &Folder,
+    o: &Oracle,
+    unit: u32,
+    stage: usize,
+) -> Result<Writes<JavaDatum>, Stop<Query<JavaPred>>>
+    requires whole { IsWhole w.now }
+    requires within { unit < length w.now.layout.files + length w.now.layout.types }
+    requires stage { stage < length (unit_stages (folder_of w.now) unit) }
+    ensures { ReadsStageOf (reply_to o.now) (unit_stages (folder_of w.now) unit) stage result }
+{
+    let files = w.file_count();
+    if unit < files {
+        read_file(alloc, w, o, unit)
+    } else {
+        read_type_stage(alloc, w, o, unit - files, stage)
+    }
+}
+
+/// The diagnostics of a unit as far as the replies tell them, or the first query that has no reply.
+pub(crate) fn finish_unit(
+    alloc: Global,
+    w: &Folder,
+    o: &Oracle,
+    unit: u32,
+) -> Result<DiagList, Stop<Query<JavaPred>>>
+    requires whole { IsWhole w.now }
+    requires within { unit < length w.now.layout.files + length w.now.layout.types }
+    ensures { Reads (reply_to o.now) (unit_ending (folder_of w.now) unit) result }
+{
+    let files = w.file_count();
+    if unit < files {
+        finish_file(alloc, w, o, unit)
+    } else {
+        finish_type(alloc, w, o, unit - files)
+    }
+}
