@@ -1,6 +1,7 @@
 mod CheckLemmas
 mod ClassLemmas
 mod CommandLemmas
+mod FolderRun
 mod Members
 mod OneTold
 mod Paths

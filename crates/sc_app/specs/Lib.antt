@@ -1,6 +1,7 @@
 pub mod Classes
 pub mod Command
 pub mod FlatReport
+pub mod FolderRun
 pub mod Laws
 pub mod Lines
 pub mod Listed

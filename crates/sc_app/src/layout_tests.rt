@@ -2,52 +2,15 @@
 //! by hand from the section on the graph in `docs/JAVA-PROFILE.md`; the prelude's own files, types and members are left out of
 //! them.
 
+use crate::sources::{Files, laid_out, title_of, trees, word_of};
 use jv_instance::JavaDatum;
-use jv_layout::{Layout, Place, is_folder, layout, prelude};
-use jv_lex::lex;
-use jv_parse::parse;
-use jv_tree::{Names, Unit};
+use jv_layout::{Layout, Place};
+use jv_tree::Names;
 use sg_base::Scope;
 use sg_state::Opening;
 use std::alloc::{AllocError, Global};
 use std::fmt::Write;
 use std::test::Fail;
-
-/// The labels by their numbers.
-const LABELS: [&str; 11] = [
-    "PKG", "TYPE", "SELF", "SIMP", "PKGOF", "ODI", "EXT", "FIELD", "METH", "CTOR", "SIG",
-];
-
-/// The word for a label.
-fn word_of(label: u8) -> &'static str {
-    LABELS.get(label as usize).copied().unwrap_or("?")
-}
-
-/// Files, in the order of their paths, each with its text.
-type Files<'a> = &'a [(&'a str, &'a str)];
-
-/// The tree of a source.
-fn parsed(alloc: Global, source: &str, names: &mut Names) -> Result<Unit, Fail> {
-    if source.len() > 1_048_576 {
-        return Err(Fail::new("a source is too long"));
-    }
-    let tokens = lex(alloc, source.as_bytes())?;
-    if tokens.len() > 1_048_576 || names.len() > 1_048_576 {
-        return Err(Fail::new("too many names"));
-    }
-    Ok(parse(alloc, source, &tokens, names)?)
-}
-
-/// The trees of the prelude's files, and then of these.
-fn trees(alloc: Global, files: Files, names: &mut Names) -> Result<Vec<Unit>, Fail> {
-    let mut units = Vec::new(alloc);
-    units.push(parsed(alloc, prelude::OBJECT, names)?)?;
-    units.push(parsed(alloc, prelude::STRING, names)?)?;
-    for (_, text) in files {
-        units.push(parsed(alloc, text, names)?)?;
-    }
-    Ok(units)
-}
 
 /// A layout with what its scopes are printed by.
 #[derive(Clone, Copy)]
@@ -69,14 +32,9 @@ impl Folder<'_> {
         }
     }
 
-    /// The printed name of a scope; a file is printed as its path.
+    /// The printed name of a scope.
     fn title(&self, s: Scope) -> Result<String, AllocError> {
-        if let Place::File(file) = self.layout.place(s) {
-            if let Some((path, _)) = self.files.get((file as usize).saturating_sub(2)) {
-                return String::from_str(self.alloc, path);
-            }
-        }
-        self.layout.title(self.alloc, self.names, s)
+        title_of(self.alloc, self.files, self.names, self.layout, s)
     }
 
     /// Adds the edges with a label, a line for each.
@@ -144,10 +102,7 @@ impl Folder<'_> {
 fn opening_text(alloc: Global, files: Files) -> Result<String, Fail> {
     let mut names = Names::new(alloc);
     let units = trees(alloc, files, &mut names)?;
-    if !is_folder(&units) {
-        return Err(Fail::new("too many names are declared"));
-    }
-    let layout = layout(alloc, &names, &units)?;
+    let layout = laid_out(alloc, &names, &units)?;
     let folder = Folder {
         alloc,
         files,

@@ -7,13 +7,23 @@
 mod check;
 mod command;
 mod flat_report;
+#[cfg(test)]
+mod folder_run;
+#[cfg(test)]
+mod folder_run_tests;
+#[cfg(test)]
+mod header_tests;
 pub mod laws;
 #[cfg(test)]
 mod layout_tests;
 mod line;
 mod listed;
+#[cfg(test)]
+mod member_tests;
 mod place;
 mod report;
+#[cfg(test)]
+mod sources;
 mod status;
 #[cfg(test)]
 mod tests;

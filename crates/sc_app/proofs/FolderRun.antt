@@ -1,0 +1,109 @@
+-- The checkers of a folder can be run over its layout.
+use Rattle.std.proofs.Common.{◌≡◌, ℕ, zero, suc, ◌+◌, ◌<◌, ◌≤◌, ◌^◌, List, [], ◌∷◌, ◌++◌, length, map, slice_get, Some, Result, Ok, Err, IfOk, inl, inr, refl, sym, ap, ◌∙◌, subst, arith}
+use Rattle.std.specs.List.{Contains}
+use Rattle.sg_base.proofs.Finite.{single, nothing_in}
+use Rattle.std.proofs.lemmas.List.Elements.{Contains-append_cases}
+use Rattle.std.proofs.lemmas.List.{map-append}
+use Rattle.sg_query.specs.Query.{KindOf}
+use Rattle.sg_script.specs.Following.{FollowsPlan}
+use Rattle.sg_script.specs.Owing.{OwesEdge, OwesDatum, AsksIn, ComesTo}
+use Rattle.sg_serial.specs.Serial.{HasRun}
+use Rattle.sg_state.specs.Held.{HeldOf}
+use Rattle.sg_state.specs.Opening.{IsSoundOpening, OpeningOf, opened_of}
+use Rattle.sg_unit.specs.Own.{own}
+use Rattle.sg_unit.specs.Served.{IsHonestBy}
+use Rattle.jv_instance.specs.declared.datum.JavaDatum.{JavaDatum}
+use Rattle.jv_instance.specs.declared.java.Java.{Java}
+use Rattle.jv_instance.specs.Data.{is_wanted}
+use Rattle.jv_layout.specs.Folder.{LayoutOf, layout_of}
+use Rattle.jv_layout.specs.Linked.{IsLinked}
+use Rattle.jv_layout.specs.Scopes.{scope_count}
+use Rattle.jv_layout.specs.Sizes.{IsFolder}
+use Rattle.jv_layout.specs.Skeleton.{skeleton_of}
+use Rattle.jv_layout.proofs.Linking.{few_scopes, rows_linked}
+use Rattle.jv_layout.proofs.SoundSkeletons.{skeletons_are_sound}
+use Rattle.jv_names.specs.Kinds.{AreKinds}
+use Rattle.jv_names.specs.Replies.{reply_to}
+use Rattle.jv_tree.specs.declared.declaration.Unit.{Unit as Tree}
+use Rattle.jv_tree.specs.DeclTree.{UnitTree, tree_of}
+use Rattle.jv_tree.specs.Numbered.{IsNumbered}
+use Rattle.jv_tree.proofs.Numbers.{unit_stays}
+use Rattle.jv_unit.specs.Folder.{FolderOf, IsFolderOf}
+use Rattle.jv_unit.specs.Plans.{JavaPlan, java_plan}
+use Rattle.jv_unit.specs.Scripts.{JavaUnit, plan_of, AreNewUnits, AreUnitsOf, IsUnit}
+use Rattle.jv_unit.proofs.NewUnits.{units_are_new}
+use Rattle.sc_app.specs.FolderRun.{AreNumbered, JavaCore, IsFolderRun, RunsFolder, same_datum, setting_of_plan}
+
+module _ (l : LayoutOf) (names : List (List ℕ)) (us : List UnitTree) (layout : l ≡ layout_of names us) (folder : IsFolder us) where
+  linked : IsLinked l
+  linked = subst IsLinked (sym layout) (rows_linked names us folder)
+
+  pub few : scope_count l < 2 ^ 31
+  few = subst (λ (z : LayoutOf). scope_count z < 2 ^ 31) (sym layout) (few_scopes names us folder)
+
+  pub is_folder_of : (kinds : List KindOf) → AreNumbered (length names) us → AreKinds kinds → IsFolderOf (record { layout = l; names = names; files = us; kinds = kinds })
+  is_folder_of kinds numbered java = record { layout = layout; linked = linked; few = few; numbered = numbered; kinds = java }
+
+  pub opening_is_sound : (o : OpeningOf JavaDatum) → o ≡ skeleton_of l → IsSoundOpening o
+  opening_is_sound o e = subst IsSoundOpening (sym e) (skeletons_are_sound l linked few)
+
+-- ---- trees whose identifiers have numbers of names
+
+module _ (m n : ℕ) (us : List UnitTree) (u : UnitTree) (old : AreNumbered m us) (more : m ≤ n) (new : IsNumbered n u) where
+  one_more_numbered : AreNumbered n (us ++ u ∷ [])
+  one_more_numbered v c = elim (Contains-append_cases us (u ∷ []) v c) [
+    | inl k ↦ unit_stays m n more v (old v k)
+    | inr k ↦ subst (IsNumbered n) (sym (single u v k)) new
+  ]
+
+pub pushed_numbered : (m n : ℕ) (ts : List Tree) (t : Tree) (all : List Tree) → AreNumbered m (map tree_of ts) → m ≤ n → IsNumbered n (tree_of t) → all ≡ ts ++ t ∷ [] → AreNumbered n (map tree_of all)
+pushed_numbered m n ts t all old more new e =
+    subst (AreNumbered n) (sym (ap (map tree_of) e ∙ map-append tree_of ts (t ∷ []))) (one_more_numbered m n (map tree_of ts) (tree_of t) old more new)
+
+pub none_numbered : (n : ℕ) (ts : List Tree) → ts ≡ [] → AreNumbered n (map tree_of ts)
+none_numbered n ts e = subst (λ (z : List Tree). AreNumbered n (map tree_of z)) (sym e) (λ v c. absurd (nothing_in v c))
+
+-- ---- the run
+
+some_at : {V : Type 0} (us : List V) (u : ℕ) → u < length us → (v : V) × (slice_get us u ≡ Some v)
+some_at [] u h = absurd (omega (arith, h))
+some_at (x ∷ xs) zero h = (x, refl)
+some_at (x ∷ xs) (suc u) h = some_at xs u (omega (arith, h))
+
+-- a run of these units
+abbrev HasRunOf : JavaCore → List JavaUnit → JavaCore → Type 0
+HasRunOf old us c =
+    HasRun {I = Java} is_wanted same_datum (λ p. p.opening) (λ p. p.kinds) (λ p. OwesEdge (setting_of_plan p) p.stages) (λ p. OwesDatum (setting_of_plan p) p.stages) (λ p. AsksIn (setting_of_plan p) p.stages p.ending) (λ p. ComesTo (setting_of_plan p) p.ending)
+    (λ v. (plan_of v.script).unit) (λ v. plan_of v.script) (λ v past last. FollowsPlan {I = Java} (plan_of v.script) (reply_to v.script.replies) v.asked v.pending v.stage v.ended past last × IsUnit v.script) old us c
+
+module _ (w : FolderOf) (us : List JavaUnit) (units : AreUnitsOf w us) (old c : JavaCore) (opening : old.opening ≡ opened_of (skeleton_of w.layout)) (kinds : old.kinds ≡ w.kinds) (ran : HasRunOf old us c) where
+  abbrev IsHonestAs : ℕ → JavaPlan → Type 0
+  IsHonestAs u p =
+      IsHonestBy {I = Java} is_wanted same_datum (λ p. p.opening) (λ p. p.kinds) (λ p. OwesEdge (setting_of_plan p) p.stages) (λ p. OwesDatum (setting_of_plan p) p.stages) (λ p. AsksIn (setting_of_plan p) p.stages p.ending)
+      (λ p. ComesTo (setting_of_plan p) p.ending) (own u c.log) u p
+
+  each_honest : (u : ℕ) → u < length w.layout.files + length w.layout.types → IsHonestAs u (java_plan w u)
+  each_honest u h =
+      let v = some_at us u (omega (arith, h, units.count)) in
+      subst (IsHonestAs u) (units.each u v.0 v.1).plan (ran.honest u v.0 v.1)
+
+  folder_runs : IsFolderRun w c
+  folder_runs = record { opening = ran.opening ∙ opening; kinds = ran.kinds ∙ kinds; core = ran.core; over = ran.over; honest = each_honest }
+
+if_ok : {A E : Type 0} (P Q : A → Type 0) (r : Result A E) → ((x : A) → P x → Q x) → IfOk r P → IfOk r Q
+if_ok P Q (Ok x) f h = f x h
+if_ok P Q (Err e) f h = tt
+
+module _ (l : LayoutOf) (names : List (List ℕ)) (files : List UnitTree) (t : List KindOf) (java : AreKinds t) (us : List JavaUnit) (units : AreUnitsOf (record { layout = l; names = names; files = files; kinds = t }) us)
+    (old : JavaCore) (o : HeldOf JavaDatum) (core : old ≡ record { opening = o; kinds = t; log = [] }) (begun : o ≡ opened_of (skeleton_of l)) where
+  begins : old.opening ≡ opened_of (skeleton_of l)
+  begins = ap (λ (k : JavaCore). k.opening) core ∙ begun
+
+  by_kinds : old.kinds ≡ t
+  by_kinds = ap (λ (k : JavaCore). k.kinds) core
+
+  pub has_run : {E : Type 0} (r : Result JavaCore E) → IfOk r (HasRunOf old us) → IfOk r (RunsFolder l names files)
+  has_run r h = if_ok (HasRunOf old us) (RunsFolder l names files) r (λ c ran. (t, java, folder_runs (record { layout = l; names = names; files = files; kinds = t }) us units old c begins by_kinds ran)) h
+
+  pub may_run : AreNewUnits old.opening old.kinds us
+  may_run = rw (begins, by_kinds) (units_are_new (record { layout = l; names = names; files = files; kinds = t }) us units)
