@@ -8,9 +8,16 @@
 mod after;
 mod doing;
 mod driving;
+mod finishing;
+mod job;
+mod pool;
 mod running;
+mod seating;
+mod site;
 mod stepped;
 
 pub use after::After;
 pub use doing::Doing;
+pub use pool::run_pool;
 pub use running::{Running, step};
+pub use seating::seat_all;

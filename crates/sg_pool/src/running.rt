@@ -65,6 +65,27 @@ impl<U: Unit, S: Seat<Inst = U::Inst, Outcome = U::Outcome>> Running<U, S> {
         }
     }
 
+    /// The number of its seat. Constant time.
+    pub fn number(&self) -> u32
+        ensures { result ≡ S.number self.now.seat }
+    {
+        self.seat.number()
+    }
+
+    /// Whether want of memory was met. Constant time.
+    pub fn has_failed(&self) -> bool
+        ensures { result ≡ self.now.failed }
+    {
+        self.failed
+    }
+
+    /// Whether an entry of it was answered that every live unit waits. Constant time.
+    pub fn is_stuck(&self) -> bool
+        ensures { result ≡ self.now.stuck }
+    {
+        self.stuck
+    }
+
     /// What comes next for the unit. Where that is nothing, it has ended, and takes no step. Constant time.
     pub fn doing(&self) -> Doing
         ensures { result ≡ self.now.doing }
@@ -79,6 +100,7 @@ impl<U: Unit, S: Seat<Inst = U::Inst, Outcome = U::Outcome>> Running<U, S> {
         requires going { self.failed ≡ false }
         ensures seat { result ≡ self.seat }
         ensures unspent { S.spent result ≡ false }
+        ensures run { (S.opening result ≡ U.opening (U.fixed self.unit)) × (S.kinds result ≡ U.kinds (U.fixed self.unit)) }
         ensures stands { SomeStands U.number U.fixed U.stands (S.mine result) (S.number result) (U.fixed self.unit) }
         ensures honest { IsHonestBy U.Inst.wants U.Inst.same_datum U.opening U.kinds U.owes_edge U.owes_datum U.may_ask U.comes_to (S.mine result) (S.number result) (U.fixed self.unit) }
         ensures ended { self.doing ≡ HasEnded → (run_of (setting_of U.Inst.wants U.Inst.same_datum (S.opening result) (S.kinds result)) (S.mine result)).live (S.number result) ≡ false }

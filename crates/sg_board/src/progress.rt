@@ -1,0 +1,30 @@
+/// What a step of a task told: it goes on, it waits until it is woken, no step is left of it, or every task is to stop.
+#[derive(Clone, Copy, Debug, Drop)]
+pub enum Progress {
+    Goes,
+    Waits,
+    Ended,
+    StopsAll,
+}
+
+impl Progress {
+    /// Whether the task goes on.
+    pub(crate) fn goes(self) -> bool {
+        match self {
+            Progress::Goes => true,
+            Progress::Waits => false,
+            Progress::Ended => false,
+            Progress::StopsAll => false,
+        }
+    }
+
+    /// Whether every task is to stop.
+    pub(crate) fn stops_all(self) -> bool {
+        match self {
+            Progress::Goes => false,
+            Progress::Waits => false,
+            Progress::Ended => false,
+            Progress::StopsAll => true,
+        }
+    }
+}
