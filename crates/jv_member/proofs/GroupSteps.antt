@@ -14,7 +14,6 @@ use Rattle.jv_instance.specs.declared.pred.JavaPred.{JavaPred}
 use Rattle.jv_layout.specs.Folder.{LayoutOf}
 use Rattle.jv_tree.specs.declared.name.Ident.{Ident}
 use Rattle.jv_tree.specs.declared.names.NameId.{NameId}
-use Rattle.jv_names.specs.Replies.{Rule}
 use Rattle.jv_member.specs.Overriding.{Groups, group_rule}
 
 module _ (reply : Query JavaPred → Option (Answer JavaDatum)) (l : LayoutOf) (names : List (List ℕ)) (c : Scope) (type : Ident) (found : List (List DiagOf)) (gs : Groups) (i : ℕ) where

@@ -1,9 +1,8 @@
 -- The steps by which methods that meet are compared.
-use Rattle.std.proofs.Common.{◌≡◌, ℕ, ◌+◌, ◌<◌, ◌≤◌, Bool, true, false, not, cond, List, [], ◌∷◌, ◌++◌, Option, Result, Ok, Err, drop, get_or, length, refl, sym, ap, ◌∙◌, subst, arith}
+use Rattle.std.proofs.Common.{◌≡◌, ℕ, ◌+◌, ◌<◌, ◌≤◌, Bool, true, false, cond, List, [], ◌∷◌, ◌++◌, Option, Result, Ok, Err, drop, get_or, length, refl, sym, ap, ◌∙◌, subst, arith}
 use Rattle.std.proofs.lemmas.List.{at_drop_more, at_drop_all}
 use Rattle.std.specs.List.{filter}
 use Rattle.sg_base.specs.declared.scope.Scope.{Scope}
-use Rattle.sg_base.specs.Scope.{is_scope}
 use Rattle.sg_query.specs.declared.answer.Answer.{Answer}
 use Rattle.sg_query.specs.declared.query.Query.{Query}
 use Rattle.sg_reading.specs.declared.stop.Stop.{Stop}
@@ -16,7 +15,7 @@ use Rattle.jv_instance.specs.declared.pred.JavaPred.{JavaPred}
 use Rattle.jv_layout.specs.Folder.{LayoutOf}
 use Rattle.jv_names.specs.Replies.{Rule}
 use Rattle.jv_member.specs.Read.{SignatureOf, result_fits}
-use Rattle.jv_member.specs.Overriding.{meeting_code, meets, is_other, fits_each, some_fits}
+use Rattle.jv_member.specs.Overriding.{meets, is_other, fits_each, some_fits}
 
 abbrev Replies : Type 0
 Replies = Query JavaPred → Option (Answer JavaDatum)

@@ -1,22 +1,17 @@
 -- The steps by which signatures, results and constructors are read.
-use Rattle.std.proofs.Common.{◌≡◌, ◌&&◌, ◌||◌, Bool, true, false, cond, List, [], ◌∷◌, ◌++◌, map, Option, Some, None, Result, Ok, Err, Bor, refl, sym, ap, subst}
-use Rattle.std.specs.List.{filter, list_any}
+use Rattle.std.proofs.Common.{◌≡◌, List, [], ◌∷◌, Option, Some, None, Ok, Err, Bor, refl, sym, ap}
 use Rattle.sg_base.specs.declared.scope.Scope.{Scope}
 use Rattle.sg_query.specs.declared.answer.Answer.{Answer}
 use Rattle.sg_query.specs.declared.found.Found.{Found}
 use Rattle.sg_query.specs.declared.query.Query.{Query}
-use Rattle.sg_reading.specs.declared.stop.Stop.{Stop}
 use Rattle.sg_reading.specs.declared.stop.Stop.TheVariants.{NoReply}
 use Rattle.sg_reading.specs.Reading.{done}
 use Rattle.sg_reading.specs.Stop.{Reads}
 use Rattle.sg_reading.proofs.Steps.{ask_ok, ask_err, done_reads, reading_steps}
 use Rattle.jv_instance.specs.declared.datum.JavaDatum.{JavaDatum}
 use Rattle.jv_instance.specs.declared.pred.JavaPred.{JavaPred}
-use Rattle.jv_layout.specs.Fits.{fits}
 use Rattle.jv_layout.specs.Folder.{LayoutOf}
-use Rattle.jv_names.specs.declared.counts.Counts.TheVariants.{Constructors}
 use Rattle.jv_names.specs.declared.kinds.TheConstants.{CTORS, SIG}
-use Rattle.jv_names.specs.Ends.{is_counted, path_end, counted_ends}
 use Rattle.jv_names.specs.Replies.{for_any}
 use Rattle.jv_member.specs.Read.{SignatureOf, signature_in, one_signature, answer_signature, signature_of, one_ctor, answer_ctor, ctor_of}
 

@@ -27,7 +27,7 @@ use Rattle.jv_types.specs.Conversion.{is_subtype, is_class, is_class_base, is_ab
 use Rattle.jv_names.specs.declared.counts.Counts.TheVariants.{Supertypes}
 use Rattle.jv_names.specs.declared.kinds.TheConstants.{SUPERS}
 use Rattle.jv_names.specs.Ends.{is_counted, path_end, counted_ends, has_end}
-use Rattle.jv_names.specs.Replies.{Rule, for_any}
+use Rattle.jv_names.specs.Replies.{for_any}
 use Rattle.jv_member.specs.Read.{answer_supers, with_object, base_fits}
 
 abbrev Replies : Type 0

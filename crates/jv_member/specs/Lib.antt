@@ -2,6 +2,7 @@ pub mod Clashes
 pub mod Constructors
 pub mod Declaration
 pub mod Groups
+pub mod MemberLaws
 pub mod Members
 pub mod Overriding
 pub mod Own

@@ -37,7 +37,13 @@ pub fn named_diag(
     ensures { MatchResult result (λ diags. diags ≡ named_diag l.now names.now ty code place name ∷ []) (λ stop. stop ≡ OutOfMemory) }
 {
     let mut diags = DiagList::empty(alloc);
-    diags.add(alloc, l.file_of(ty), place.at, code, &[text_of(names, name)])?;
+    diags.add(
+        alloc,
+        l.file_of(ty),
+        place.at,
+        code,
+        &[text_of(names, name)],
+    )?;
     Ok(diags)
 }
 

@@ -152,12 +152,6 @@ pub fn read_inherited_rule(
 ) -> Result<DiagList, Stop<Query<JavaPred>>>
     ensures { Reads (reply_to o.now) (inherited_rule l.now names.now ty type_name) result }
 {
-    let ends = find_ends(
-        alloc,
-        l,
-        o,
-        Counts::Methods,
-        for_any(kinds::METHODS, ty),
-    )?;
+    let ends = find_ends(alloc, l, o, Counts::Methods, for_any(kinds::METHODS, ty))?;
     read_all_groups(alloc, l, names, o, ty, type_name, ends)
 }

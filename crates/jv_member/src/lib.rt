@@ -1,9 +1,12 @@
-//! The members of types: which a declaration has, what their signatures are, and what is wrong with their declarations
-//! (JLS 8.3, 8.4, 8.8, 9.3, 9.4).
+//! The members of types: which a declaration has, what their signatures are, what is wrong with their declarations
+//! and with all of them together (JLS 8.3, 8.4, 8.8, 9.3, 9.4).
 //!
 //! The signature of a member is a rule over replies: it reads the types that are written in it, in order. `specs/Own.antt`
 //! says which members a declaration has, `specs/Signatures.antt` what their signatures are, `specs/Declaration.antt` what is wrong
-//! with a declaration itself. No unit is known here: what is read stands on replies alone.
+//! with a declaration itself. What is wrong with the members of a type together is a rule too, `specs/Members.antt`: of
+//! `specs/Overriding.antt` which methods stand over which others and where methods meet, of `specs/Constructors.antt` which
+//! constructor of the superclass is called; by what `specs/Read.antt` reads of answers. No unit is known here: what is read
+//! stands on replies alone.
 #![tactic(auto)]
 
 mod above;
@@ -12,11 +15,12 @@ mod codes;
 mod constructors;
 mod declaring;
 mod diag_lists;
-pub mod laws;
 mod groups;
 mod inherited;
+pub mod laws;
 mod meeting;
 mod member_decl;
+pub mod member_laws;
 mod members;
 mod pairs;
 mod placed;

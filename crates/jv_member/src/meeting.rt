@@ -38,9 +38,7 @@ fn is_owner(ty: Scope, owner: Option<Scope>) -> bool
 fn declares_one(l: &Layout, ty: Scope, methods: &[Scope]) -> bool
     ensures { result ≡ declares_one l.now ty methods.now }
 {
-    methods
-        .iter()
-        .any(|method| is_owner(ty, l.owner(*method)))
+    methods.iter().any(|method| is_owner(ty, l.owner(*method)))
 }
 
 /// The first method that is not abstract.

@@ -95,16 +95,7 @@ fn read_overrides(
             if declarations.is_duplicate(l, placed.scope) {
                 return Ok(DiagList::empty(alloc));
             }
-            read_method_rule(
-                alloc,
-                l,
-                names,
-                o,
-                ty,
-                type_name,
-                placed.scope,
-                method.name,
-            )
+            read_method_rule(alloc, l, names, o, ty, type_name, placed.scope, method.name)
         }
         _ => Ok(DiagList::empty(alloc)),
     }

@@ -27,12 +27,7 @@ fn is_above(l: &Layout, class: Scope, above: Scope, answer: &Answer<JavaDatum>) 
 
 /// Whether a result of one base fits another one with the same brackets.
 #[tactic(auto, using(crate::proofs::ResultSteps::result_steps))]
-fn read_base_fits(
-    l: &Layout,
-    o: &Oracle,
-    from: Ty,
-    to: Ty,
-) -> Result<bool, Stop<Query<JavaPred>>>
+fn read_base_fits(l: &Layout, o: &Oracle, from: Ty, to: Ty) -> Result<bool, Stop<Query<JavaPred>>>
     requires { from.dims ≡ to.dims }
     ensures { Reads (reply_to o.now) (base_fits l.now from to from.base to.base) result }
 {

@@ -20,13 +20,7 @@ fn superclass_by(l: &Layout, meaning: Meaning) -> Option<Scope>
     ensures { result ≡ superclass_by l.now meaning }
 {
     match meaning {
-        Meaning::One(s) => {
-            if l.is_interface(s) {
-                None
-            } else {
-                Some(s)
-            }
-        }
+        Meaning::One(s) => { if l.is_interface(s) { None } else { Some(s) } }
         Meaning::Nothing | Meaning::Ambiguous | Meaning::TooMany => Some(l.object()),
     }
 }

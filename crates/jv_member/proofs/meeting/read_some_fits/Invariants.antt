@@ -1,10 +1,7 @@
 use Rattle.std.proofs.Common.{Bool, Result, drop}
-use Rattle.std.specs.List.{filter}
 use Rattle.sg_query.specs.declared.query.Query.{Query}
 use Rattle.sg_reading.specs.declared.stop.Stop.{Stop}
-use Rattle.sg_reading.specs.Reading.{each}
 use Rattle.sg_reading.specs.Stop.{Reads}
-use Rattle.sg_reading.proofs.Lists.{each_after}
 use Rattle.jv_instance.specs.declared.pred.JavaPred.{JavaPred}
 use Rattle.jv_names.specs.Replies.{reply_to}
 use Rattle.jv_member.specs.Overriding.{some_fits}
