@@ -11,3 +11,6 @@ pub mod MeetingSteps
 pub mod GroupSteps
 pub mod CtorSteps
 pub mod MemberSteps
+pub mod Listed
+pub mod GroupsListed
+pub mod MembersAsked

@@ -1,6 +1,6 @@
 //! Laws of members, each the contract of a function that does nothing.
 
-ghost use Rattle.jv_member.specs.Bounds.{SignaturesStayIn, OwnMembersAreNumbered};
+ghost use Rattle.jv_member.specs.Bounds.{SignaturesStayIn, OwnMembersAreNumbered, MembersAskInLayout};
 ghost use Rattle.jv_member.specs.Law.{SignaturesReadOnlyTheirQueries};
 
 /// The signature of a member looks at a graph only by the queries that it asks.
@@ -18,4 +18,10 @@ pub fn rules_ask_in_the_layout()
 /// Where each identifier of a declaration is numbered, so is each of its members.
 pub fn own_members_are_numbered()
     ensures { OwnMembersAreNumbered }
+{}
+
+/// Whatever the answers, even those that name scopes outside the layout, all that is checked of a type's members asks queries of the
+/// layout alone: each starts at one of its scopes, is of one of the kinds, and asks for any name, or for one that is numbered.
+pub fn members_ask_in_the_layout()
+    ensures { MembersAskInLayout }
 {}
