@@ -29,6 +29,8 @@ mod results;
 mod signature;
 mod signature_types;
 mod superclass;
+#[cfg(test)]
+mod tests;
 mod whole_methods;
 mod written_types;
 
