@@ -26,11 +26,12 @@ use Rattle.jv_layout.specs.Skeleton.{below}
 use Rattle.jv_layout.proofs.SoundLists.{from_below}
 use Rattle.jv_layout.proofs.SoundPlaces.{scopes_have_places}
 use Rattle.jv_member.specs.declared.signature.Signature.{Signature}
-use Rattle.jv_member.specs.Declaration.{member_diags}
+use Rattle.jv_member.specs.Members.{members_rule}
 use Rattle.jv_names.specs.Replies.{Rule}
 use Rattle.jv_unit.specs.Folder.{FolderOf}
-use Rattle.jv_unit.specs.Owns.{own_at}
-use Rattle.jv_unit.specs.Plans.{class_of, member_part, member_signature, signature_stage, with_parts}
+use Rattle.jv_tree.specs.DeclTree.{TypeDeclTree}
+use Rattle.jv_unit.specs.Plans.{member_part, member_signature, signature_stage, with_checks, with_members, with_parts}
+use Rattle.jv_unit.specs.Trees.{decl_at}
 use Rattle.jv_unit.proofs.Steps.{made, made_twice, stops_twice}
 
 abbrev Replies : Type 0
@@ -85,14 +86,10 @@ module _ (reply : Replies) (w : FolderOf) (t m n : ℕ) (number : n ≡ m) where
   pub part_unknown : (e : Stop (Query JavaPred)) (x : Result (List DiagOf) (Stop (Query JavaPred))) → IsErrAnd x (λ y. y ≡ e) → Reads {U = Signature} reply (member_signature w t n) (Err e) → Reads reply (member_part w t m) x
   part_unknown e x k h =
       stops reply (member_part w t m) e x k
-      (then_err reply (member_signature w t m) (λ s. done (member_diags w.layout w.names (type_scope w.layout t) (class_of w t) (member_scope w.layout m) (own_at w.files m) ++ s.diags)) e (signature_read (Err e) h))
+      (then_err reply (member_signature w t m) (λ s. done s.diags) e (signature_read (Err e) h))
 
-  pub part_read : (s : Signature) (own : List DiagOf) (at : Scope) (x : Result (List DiagOf) (Stop (Query JavaPred))) → at ≡ member_scope w.layout m → Reads reply (member_signature w t n) (Ok s)
-      → own ≡ member_diags w.layout w.names (type_scope w.layout t) (class_of w t) at (own_at w.files n) → MatchResult x (λ ds. ds ≡ own ++ s.diags) (λ stop. stop ≡ OutOfMemory) → Reads reply (member_part w t m) x
-  part_read s own at x place h e k =
-      let said : own ≡ member_diags w.layout w.names (type_scope w.layout t) (class_of w t) (member_scope w.layout m) (own_at w.files m) = e ∙ (λ i. member_diags w.layout w.names (type_scope w.layout t) (class_of w t) (place i) (own_at w.files (number i))) in
-      made reply (member_signature w t m) (λ s. member_diags w.layout w.names (type_scope w.layout t) (class_of w t) (member_scope w.layout m) (own_at w.files m) ++ s.diags) s x (signature_read (Ok s) h)
-      (subst (λ (o : List DiagOf). MatchResult x (λ ds. ds ≡ o ++ s.diags) (λ stop. stop ≡ OutOfMemory)) said k)
+  pub part_read : (s : Signature) (ds : List DiagOf) → Reads reply (member_signature w t n) (Ok s) → ds ≡ s.diags → Reads reply (member_part w t m) (Ok ds)
+  part_read s ds h e = made reply (member_signature w t m) (λ s. s.diags) s (Ok ds) (signature_read (Ok s) h) e
 
 -- ---- what is read of all members
 
@@ -112,6 +109,29 @@ module _ (reply : Replies) (w : FolderOf) (t : ℕ) (ds : List DiagOf) (ms : Lis
   pub parts_end : length ms ≤ i → Reads reply (with_parts w t ds (drop i ms)) (Ok ds)
   unfolding with_parts
   parts_end past = subst (λ (r : Rule (List DiagOf)). Reads reply r (Ok ds)) (sym (at_drop_all (λ (ns : List ℕ). with_parts w t ds ns) ms i past)) (done_reads reply ds ds refl)
+
+-- ---- what is checked of all members
+
+module _ (reply : Replies) (w : FolderOf) (t : ℕ) where
+  abbrev checks : Rule (List DiagOf)
+  checks = members_rule w.layout w.names (type_scope w.layout t) (decl_at w.files t)
+
+  pub checks_read : (l : LayoutOf) (names : List (List ℕ)) (c : Scope) (d : TypeDeclTree) → l ≡ w.layout → names ≡ w.names → c ≡ type_scope w.layout t → d ≡ decl_at w.files t → (x : Result (List DiagOf) (Stop (Query JavaPred))) → Reads reply (members_rule l names c d) x → Reads reply checks x
+  checks_read l names c d layout named type decl x h = subst (λ (r : Rule (List DiagOf)). Reads reply r x) (λ i. members_rule (layout i) (named i) (type i) (decl i)) h
+
+  module _ (ds : List DiagOf) where
+    abbrev parts : Rule (List DiagOf)
+    parts = with_parts w t ds (members_of_type w.layout t)
+
+    pub parts_unknown : (e : Stop (Query JavaPred)) (x : Result (List DiagOf) (Stop (Query JavaPred))) → IsErrAnd x (λ y. y ≡ e) → Reads {U = List DiagOf} reply parts (Err e) → Reads reply (with_members w t ds) x
+    parts_unknown e x k h = stops reply (with_members w t ds) e x k (then_err reply parts (with_checks w t) e h)
+
+    module _ (p : List DiagOf) (read : Reads reply parts (Ok p)) where
+      pub checks_unknown : (e : Stop (Query JavaPred)) (x : Result (List DiagOf) (Stop (Query JavaPred))) → IsErrAnd x (λ y. y ≡ e) → Reads {U = List DiagOf} reply checks (Err e) → Reads reply (with_members w t ds) x
+      checks_unknown e x k h = stops reply (with_members w t ds) e x k (then_ok reply parts (with_checks w t) p (Err e) read (then_err reply checks (λ ms. done (p ++ ms)) e h))
+
+      pub members_read : (ms : List DiagOf) (x : Result (List DiagOf) (Stop (Query JavaPred))) → Reads reply checks (Ok ms) → MatchResult x (λ all. all ≡ p ++ ms) (λ stop. stop ≡ OutOfMemory) → Reads reply (with_members w t ds) x
+      members_read ms x h k = then_ok reply parts (with_checks w t) p x read (made reply checks (λ ms. p ++ ms) ms x h k)
 
 pub ruleset member_facts = (count_members, member_there, member_within, place_is)
 

@@ -11,7 +11,7 @@ use Rattle.sg_base.specs.List.{IsDistinct}
 use Rattle.sg_base.proofs.Finite.{nothing_in, single, Contains-head, Contains-tail, Contains-cons, Contains-filter, Contains-map, Distinct-filter, flat_map-Contains}
 use Rattle.sg_query.specs.declared.query.Query.{Query}
 use Rattle.sg_reading.specs.Reading.{done, AllAsked}
-use Rattle.sg_reading.proofs.Asking.{AllAsked-more, AllEnds-more}
+use Rattle.sg_reading.proofs.Asking.{AllAsked-more, AllEnds-more, and_then-asked, and_then-asked_where}
 use Rattle.sg_script.specs.Script.{Stage, IsQuery, IsStage, IsSound, AreApart}
 use Rattle.sg_script.proofs.Stages.{data_are_stages, rows_are_stages, edges_are_stages}
 use Rattle.sg_state.specs.declared.need.Need.TheVariants.{Row, Datum}
@@ -25,7 +25,7 @@ use Rattle.jv_instance.specs.declared.pred.JavaPred.{JavaPred}
 use Rattle.jv_instance.specs.declared.pred.JavaPred.TheVariants.{Named, Any}
 use Rattle.jv_layout.specs.Folder.{LayoutOf}
 use Rattle.jv_layout.specs.Readers.{member_at, members_of_type}
-use Rattle.jv_layout.specs.Scopes.{file_scope, member_scope, place_of, signature_of_member, type_scope}
+use Rattle.jv_layout.specs.Scopes.{file_scope, place_of, signature_of_member, type_scope}
 use Rattle.jv_layout.specs.Skeleton.{below, skeleton_of, file_hold, file_holds, signature_hold, signature_holds, type_hold, type_holds}
 use Rattle.jv_layout.proofs.SoundLists.{from_below, in_image}
 use Rattle.jv_layout.proofs.SoundSkeletons.{skeletons_are_sound}
@@ -42,14 +42,15 @@ use Rattle.jv_header.specs.Imports.{ImportsOf, imports_rule, import_edges}
 use Rattle.jv_header.proofs.Bounds.{header_rule_stays, header_row_stays, depends_rule_stays, imports_rule_stays}
 use Rattle.jv_header.proofs.Programs.{start_is_listed}
 use Rattle.jv_member.specs.declared.signature.Signature.{Signature}
-use Rattle.jv_member.specs.Bounds.{IsNumberedOwn, IsSignatureIn}
-use Rattle.jv_member.specs.Declaration.{member_diags}
+use Rattle.jv_member.specs.Bounds.{IsLayoutQuery, IsNumberedOwn, IsSignatureIn}
+use Rattle.jv_member.specs.Members.{members_rule}
 use Rattle.jv_member.proofs.Bounds.{signatures_stay_in}
+use Rattle.jv_member.proofs.MembersAsked.{members_ask_in_layout}
 use Rattle.jv_tree.specs.DeclTree.{TypeDeclTree}
 use Rattle.jv_tree.specs.Numbered.{IsNumberedDecl}
 use Rattle.jv_unit.specs.Folder.{FolderOf, IsFolderOf, java_preds}
 use Rattle.jv_unit.specs.Owns.{own_at}
-use Rattle.jv_unit.specs.Plans.{class_of, member_part, member_signature, signature_datum, signature_stage, type_part, with_parts, java_plan, file_rows, file_edges, file_stage, file_stages, file_ending, type_row, type_stage, type_stages, type_ending, behind_header}
+use Rattle.jv_unit.specs.Plans.{class_of, member_part, member_signature, signature_datum, signature_stage, type_part, with_checks, with_members, with_parts, java_plan, file_rows, file_edges, file_stage, file_stages, file_ending, type_row, type_stage, type_stages, type_ending, behind_header}
 use Rattle.jv_unit.specs.Trees.{decl_at, unit_at, name_of, extends_of, implements_of}
 use Rattle.jv_unit.proofs.Numbers.{decl_numbered, members_are_owns, owns_numbered, imports_numbered, extends_numbered, implements_numbered}
 use Rattle.jv_unit.proofs.Trees.{types_of_decls}
@@ -119,6 +120,13 @@ module _ (w : FolderOf) (h : IsFolderOf w) where
     query_in : (q : Query JavaPred) → IsNameQuery w.layout (length w.names) q → IsQuery (java_plan w u) q
     query_in q k = record {
       start = has_start q.start (start_is_listed w.layout q.start k.start);
+      kind = subst (λ (n : ℕ). q.kind < n) (sym h.kinds.count) k.kind;
+      pred = pred_in w.names q.pred k.pred;
+    }
+
+    layout_query_in : (q : Query JavaPred) → IsLayoutQuery w.layout (length w.names) q → IsQuery (java_plan w u) q
+    layout_query_in q k = record {
+      start = has_start q.start k.start;
       kind = subst (λ (n : ℕ). q.kind < n) (sym h.kinds.count) k.kind;
       pred = pred_in w.names q.pred k.pred;
     }
@@ -225,8 +233,8 @@ module _ (w : FolderOf) (h : IsFolderOf w) where
     part_stays : (m : ℕ) → m < length w.layout.members → StaysIn w.layout (length w.names) (λ (ds : List DiagOf). Unit {0}) (member_part w t m)
     part_stays m below =
         then_stays w.layout (length w.names) (λ (s : Signature). IsSignatureIn w.layout s.datum) (λ (ds : List DiagOf). Unit {0}) (member_signature w t m)
-        (λ s. done (member_diags w.layout w.names c (class_of w t) (member_scope w.layout m) (own_at w.files m) ++ s.diags)) (signature_stays m below)
-        (λ s k. done_stays w.layout (length w.names) (λ (ds : List DiagOf). Unit {0}) (member_diags w.layout w.names c (class_of w t) (member_scope w.layout m) (own_at w.files m) ++ s.diags) tt)
+        (λ s. done s.diags) (signature_stays m below)
+        (λ s k. done_stays w.layout (length w.names) (λ (ds : List DiagOf). Unit {0}) s.diags tt)
 
     parts_stay : (ds : List DiagOf) (ms : List ℕ) → ((m : ℕ) → Contains ms m → m < length w.layout.members) → StaysIn w.layout (length w.names) (λ (ds : List DiagOf). Unit {0}) (with_parts w t ds ms)
     unfolding with_parts
@@ -234,16 +242,6 @@ module _ (w : FolderOf) (h : IsFolderOf w) where
     parts_stay ds (m ∷ ms) below =
         then_stays w.layout (length w.names) (λ (ds : List DiagOf). Unit {0}) (λ (ds : List DiagOf). Unit {0}) (member_part w t m) (λ p. with_parts w t (ds ++ p) ms) (part_stays m (below m (Contains-head m ms)))
         (λ p k. parts_stay (ds ++ p) ms (λ n c. below n (Contains-tail m n ms c)))
-
-    behind_stays : (x : Header) → AreTypes w.layout x.row → StaysIn w.layout (length w.names) (λ (ds : List DiagOf). Unit {0}) (behind_header w t x)
-    behind_stays x are =
-        then_stays w.layout (length w.names) (λ (ds : List DiagOf). Unit {0}) (λ (ds : List DiagOf). Unit {0}) (depends_rule w.layout w.names c (name_of decl) x.row) (λ ds. with_parts w t (type_part w t x ds) (members_of_type w.layout t))
-        (depends_rule_stays w.layout (length w.names) w.names c (name_of decl) x.row are)
-        (λ ds k. parts_stay (type_part w t x ds) (members_of_type w.layout t) (λ m k. member_below w.layout t m k))
-
-    ending_stays : StaysIn w.layout (length w.names) (λ (ds : List DiagOf). Unit {0}) (type_ending w t)
-    ending_stays =
-        then_stays w.layout (length w.names) (λ (x : Header). AreTypes w.layout x.row) (λ (ds : List DiagOf). Unit {0}) (header_rule w.layout w.names c (extends_of decl) (implements_of decl)) (behind_header w t) header_stays behind_stays
 
     module _ (u : ℕ) (is : u ≡ length w.layout.files + t) where
       type_row_held : HoldsRow (opened_of (skeleton_of w.layout)) u c EXT
@@ -271,8 +269,29 @@ module _ (w : FolderOf) (h : IsFolderOf w) where
           data_are_stages (List DiagOf) JavaDatum JavaPred (java_plan w u) (signature_of_member w.layout m) (signature_datum w t m) (datum_held m below (member_owned w.layout t m c))
           (asks_in u (λ (d : JavaDatum). Unit {0}) (signature_datum w t m) (datum_stays m below))
 
+      -- all that is checked of members asks from the layout
+      checks_ask : AllAsked (IsQuery (java_plan w u)) (members_rule w.layout w.names c decl)
+      checks_ask = AllAsked-more (IsLayoutQuery w.layout (length w.names)) (IsQuery (java_plan w u)) (members_rule w.layout w.names c decl) (layout_query_in u) (members_ask_in_layout w.layout (length w.names) w.names c decl h.linked is_type numbered)
+
+      with_members_asks : (ds : List DiagOf) → AllAsked (IsQuery (java_plan w u)) (with_members w t ds)
+      with_members_asks ds =
+          let parts = with_parts w t ds (members_of_type w.layout t) in
+          and_then-asked (IsQuery (java_plan w u)) parts (with_checks w t)
+          (asks_in u (λ (ds : List DiagOf). Unit {0}) parts (parts_stay ds (members_of_type w.layout t) (λ m k. member_below w.layout t m k)))
+          (λ p. and_then-asked (IsQuery (java_plan w u)) (members_rule w.layout w.names c decl) (λ ms. done (p ++ ms)) checks_ask (λ ms. tt))
+
+      behind_asks : (x : Header) → AreTypes w.layout x.row → AllAsked (IsQuery (java_plan w u)) (behind_header w t x)
+      behind_asks x are =
+          let rule = depends_rule w.layout w.names c (name_of decl) x.row in
+          and_then-asked (IsQuery (java_plan w u)) rule (λ ds. with_members w t (type_part w t x ds))
+          (asks_in u (λ (ds : List DiagOf). Unit {0}) rule (depends_rule_stays w.layout (length w.names) w.names c (name_of decl) x.row are))
+          (λ ds. with_members_asks (type_part w t x ds))
+
       pub type_ending_asks : AllAsked (IsQuery (java_plan w u)) (type_ending w t)
-      type_ending_asks = asks_in u (λ (ds : List DiagOf). Unit {0}) (type_ending w t) ending_stays
+      type_ending_asks =
+          let rule = header_rule w.layout w.names c (extends_of decl) (implements_of decl) in
+          and_then-asked_where (IsQuery (java_plan w u)) (λ (x : Header). AreTypes w.layout x.row) rule (behind_header w t)
+          (asks_in u (λ (x : Header). AreTypes w.layout x.row) rule header_stays) header_stays.ends behind_asks
 
   -- ---- units
 

@@ -17,7 +17,6 @@ use Rattle.jv_instance.specs.declared.datum.JavaDatum.{JavaDatum}
 use Rattle.jv_instance.specs.declared.pred.JavaPred.{JavaPred}
 use Rattle.jv_instance.specs.declared.labels.TheConstants.{EXT}
 use Rattle.jv_layout.specs.Folder.{LayoutOf}
-use Rattle.jv_layout.specs.Readers.{members_of_type}
 use Rattle.jv_layout.specs.Scopes.{type_scope}
 use Rattle.jv_names.specs.Replies.{Rule}
 use Rattle.jv_header.specs.declared.header.Header.{Header}
@@ -27,7 +26,7 @@ use Rattle.jv_header.specs.Header.{header_rule}
 use Rattle.jv_header.specs.Imports.{ImportsOf, imports_rule, import_edges}
 use Rattle.jv_tree.specs.DeclTree.{TypeDeclTree, UnitTree}
 use Rattle.jv_unit.specs.Folder.{FolderOf}
-use Rattle.jv_unit.specs.Plans.{file_rows, file_stage, file_ending, type_stage, type_ending, behind_header, type_part, with_parts}
+use Rattle.jv_unit.specs.Plans.{file_rows, file_stage, file_ending, type_stage, type_ending, behind_header, type_part, with_members}
 use Rattle.jv_unit.specs.Trees.{decl_at, unit_at, name_of, mods_of, extends_of, implements_of}
 
 abbrev Replies : Type 0
@@ -104,7 +103,7 @@ module _ (reply : Replies) (w : FolderOf) (t : ℕ) (l : LayoutOf) (names : List
       depends_read x k = subst (λ (r : Rule (List DiagOf)). Reads reply r x) (λ i. depends_rule (again i) (named_again i) (type i) (name_of (decl i)) (rows i)) k
 
       abbrev going_on : List DiagOf → Rule (List DiagOf)
-      going_on ds = with_parts w t (type_part w t h ds) (members_of_type w.layout t)
+      going_on ds = with_members w t (type_part w t h ds)
 
       pub dependence_unknown : (e : Stop (Query JavaPred)) (x : Result (List DiagOf) (Stop (Query JavaPred))) → IsErrAnd x (λ y. y ≡ e) → Reads {U = List DiagOf} reply (depends_rule m texts c (name_of d) row) (Err e) → Reads reply (type_ending w t) x
       dependence_unknown e x s k =
@@ -112,13 +111,13 @@ module _ (reply : Replies) (w : FolderOf) (t : ℕ) (l : LayoutOf) (names : List
           (behind (Err e) (then_err reply (depends_rule w.layout w.names (type_scope w.layout t) (name_of (decl_at w.files t)) h.row) going_on e (depends_read (Err e) k)))
 
       pub type_ended : (ds own all : List DiagOf) (x : Result (List DiagOf) (Stop (Query JavaPred))) → Reads reply (depends_rule m texts c (name_of d) row) (Ok ds) → own ≡ declared_diags w.layout w.names c (name_of d) (mods_of d) → all ≡ (h.diags ++ ds) ++ own
-          → Reads reply (with_parts w t all (members_of_type w.layout t)) x → Reads reply (type_ending w t) x
+          → Reads reply (with_members w t all) x → Reads reply (type_ending w t) x
       type_ended ds own all x k o a r =
           let said : own ≡ declared_diags w.layout w.names (type_scope w.layout t) (name_of (decl_at w.files t)) (mods_of (decl_at w.files t)) = o ∙ (λ i. declared_diags w.layout w.names (type i) (name_of (decl i)) (mods_of (decl i))) in
           let part : all ≡ type_part w t h ds = a ∙ ap (λ (o : List DiagOf). (h.diags ++ ds) ++ o) said in
           behind x
           (then_ok reply (depends_rule w.layout w.names (type_scope w.layout t) (name_of (decl_at w.files t)) h.row) going_on ds x (depends_read (Ok ds) k)
-          (subst (λ (z : List DiagOf). Reads reply (with_parts w t z (members_of_type w.layout t)) x) part r))
+          (subst (λ (z : List DiagOf). Reads reply (with_members w t z) x) part r))
 
     pub own_unknown : (e : Stop (Query JavaPred)) (x : Result (List DiagOf) (Stop (Query JavaPred))) → IsErrAnd x (λ y. y ≡ e) → e ≡ OutOfMemory → Reads reply (type_ending w t) x
     own_unknown e x s m = memory_stops reply (type_ending w t) e x s m

@@ -11,7 +11,7 @@ use Rattle.jv_instance.specs.declared.pred.JavaPred.{JavaPred}
 use Rattle.jv_instance.specs.declared.labels.TheConstants.{SIMP, ODI, EXT}
 use Rattle.jv_layout.specs.Folder.{LayoutOf}
 use Rattle.jv_layout.specs.Readers.{members_of_type}
-use Rattle.jv_layout.specs.Scopes.{file_scope, member_scope, signature_of_member, type_scope}
+use Rattle.jv_layout.specs.Scopes.{file_scope, signature_of_member, type_scope}
 use Rattle.jv_layout.specs.Skeleton.{skeleton_of}
 use Rattle.jv_names.specs.Replies.{Rule}
 use Rattle.jv_header.specs.declared.header.Header.{Header}
@@ -20,7 +20,7 @@ use Rattle.jv_header.specs.Depends.{depends_rule}
 use Rattle.jv_header.specs.Header.{header_rule, header_row}
 use Rattle.jv_header.specs.Imports.{imports_rule, import_edges}
 use Rattle.jv_member.specs.declared.signature.Signature.{Signature}
-use Rattle.jv_member.specs.Declaration.{member_diags}
+use Rattle.jv_member.specs.Members.{members_rule}
 use Rattle.jv_member.specs.Signatures.{signature_rule}
 use Rattle.jv_tree.specs.declared.names.NameId.{NameId}
 use Rattle.jv_unit.specs.Folder.{FolderOf, java_preds}
@@ -75,15 +75,22 @@ signature_datum w t m = and_then (member_signature w t m) (λ s. done s.datum)
 abbrev pub signature_stage : FolderOf → ℕ → ℕ → Stage JavaDatum JavaPred
 signature_stage w t m = datum_stage (signature_of_member w.layout m) (signature_datum w t m)
 
--- the diagnostics of a member: of its declaration, and of the types in its signature
+-- the diagnostics of the types in a member's signature
 abbrev pub member_part : FolderOf → ℕ → ℕ → Rule (List DiagOf)
-member_part w t m =
-    and_then (member_signature w t m) (λ s. done (member_diags w.layout w.names (type_scope w.layout t) (class_of w t) (member_scope w.layout m) (own_at w.files m) ++ s.diags))
+member_part w t m = and_then (member_signature w t m) (λ s. done s.diags)
 
 -- the diagnostics of some members behind those so far
 unfoldable pub with_parts : FolderOf → ℕ → List DiagOf → List ℕ → Rule (List DiagOf)
 with_parts w t ds [] = done ds
 with_parts w t ds (m ∷ ms) = and_then (member_part w t m) (λ p. with_parts w t (ds ++ p) ms)
+
+-- what is checked of all members of a type, behind the diagnostics so far
+abbrev pub with_checks : FolderOf → ℕ → List DiagOf → Rule (List DiagOf)
+with_checks w t ds = and_then (members_rule w.layout w.names (type_scope w.layout t) (decl_at w.files t)) (λ ms. done (ds ++ ms))
+
+-- the diagnostics of the members of a type behind those so far: of the types in their signatures, and of all that is checked of them
+abbrev pub with_members : FolderOf → ℕ → List DiagOf → Rule (List DiagOf)
+with_members w t ds = and_then (with_parts w t ds (members_of_type w.layout t)) (with_checks w t)
 
 -- ---- the diagnostics of a type
 
@@ -93,7 +100,7 @@ type_part w t h ds = (h.diags ++ ds) ++ declared_diags w.layout w.names (type_sc
 
 -- the diagnostics of a type whose header is known: of its header, of its dependence on itself, of its declaration, and of its members
 abbrev pub behind_header : FolderOf → ℕ → Header → Rule (List DiagOf)
-behind_header w t h = and_then (depends_rule w.layout w.names (type_scope w.layout t) (name_of (decl_at w.files t)) h.row) (λ ds. with_parts w t (type_part w t h ds) (members_of_type w.layout t))
+behind_header w t h = and_then (depends_rule w.layout w.names (type_scope w.layout t) (name_of (decl_at w.files t)) h.row) (λ ds. with_members w t (type_part w t h ds))
 
 abbrev pub type_ending : FolderOf → ℕ → Rule (List DiagOf)
 type_ending w t = and_then (header_rule w.layout w.names (type_scope w.layout t) (extends_of (decl_at w.files t)) (implements_of (decl_at w.files t))) (behind_header w t)

@@ -6,17 +6,17 @@ ghost use Rattle.sg_reading.specs.declared.stop.Stop.TheVariants.{OutOfMemory};
 ghost use Rattle.sg_script.specs.declared.write.Write.TheVariants.{SetDatum};
 ghost use Rattle.jv_layout.specs.Readers.{members_of_type};
 ghost use Rattle.jv_layout.specs.Scopes.{member_scope, type_scope};
-ghost use Rattle.jv_member.specs.Declaration.{member_diags};
+ghost use Rattle.jv_member.specs.Members.{members_rule};
 ghost use Rattle.jv_names.specs.Replies.{reply_to};
 ghost use Rattle.jv_unit.specs.Kept.{folder_of, IsWhole};
-ghost use Rattle.jv_unit.specs.Owns.{own_at};
-ghost use Rattle.jv_unit.specs.Plans.{class_of, member_part, member_signature, signature_stage, with_parts};
+ghost use Rattle.jv_unit.specs.Trees.{decl_at};
+ghost use Rattle.jv_unit.specs.Plans.{member_part, member_signature, signature_stage, with_members, with_parts};
 
 use crate::folder::Folder;
 use jv_diag::DiagList;
 use jv_instance::{JavaDatum, JavaPred};
 use jv_layout::Place;
-use jv_member::{Signature, member_diags, read_signature};
+use jv_member::{Signature, read_members, read_signature};
 use jv_names::Oracle;
 use sg_base::Scope;
 use sg_query::Query;
@@ -119,46 +119,8 @@ pub(crate) fn read_datum(
     datum_writes(alloc, scope, signature.datum)
 }
 
-/// What is wrong with the declaration of a member.
-fn declared(
-    alloc: Global,
-    w: &Folder,
-    t: u32,
-    m: u32,
-    scope: Scope,
-) -> Result<DiagList, Stop<Query<JavaPred>>>
-    requires whole { IsWhole w.now }
-    requires ty { t < length w.now.layout.types }
-    requires member { m < length w.now.layout.members }
-    ensures { MatchResult result
-        (λ ds. ds ≡ member_diags w.now.layout w.now.names (type_scope w.now.layout t) (class_of (folder_of w.now) t) scope (own_at (folder_of w.now).files m))
-        (λ stop. stop ≡ OutOfMemory) }
-{
-    let decl = w.decl(t);
-    let member = w.member(m);
-    let diags = member_diags(
-        alloc,
-        w.layout(),
-        w.declarations(),
-        w.names(),
-        w.ty(t),
-        decl.name.id,
-        scope,
-        &member,
-    )?;
-    Ok(diags)
-}
-
-/// Two lists of diagnostics, one behind the other.
-fn behind(first: DiagList, second: DiagList) -> Result<DiagList, Stop<Query<JavaPred>>>
-    ensures { MatchResult result (λ ds. ds ≡ first ++ second) (λ stop. stop ≡ OutOfMemory) }
-{
-    let mut diags = first;
-    diags.append(second)?;
-    Ok(diags)
-}
-
-/// The diagnostics of a member, by its place among those of its type, as far as the replies tell them.
+/// The diagnostics of the types in the signature of a member, by its place among those of its type, as far as the replies tell
+/// them.
 #[tactic(auto, using(crate::proofs::OwnMembers::member_facts))]
 fn read_part(
     alloc: Global,
@@ -174,14 +136,13 @@ fn read_part(
 {
     let m = member_number(w, t, place);
     let signature = read_member(alloc, w, o, t, m)?;
-    let own = declared(alloc, w, t, m, member_at(w, t, place))?;
-    behind(own, signature.diags)
+    Ok(signature.diags)
 }
 
-/// The diagnostics of the members of a type behind others, as far as the replies tell them, or the first query that has no
-/// reply.
+/// The diagnostics of the types in the signatures of a type's members behind others, as far as the replies tell them, or the
+/// first query that has no reply.
 #[tactic(auto, using(crate::proofs::OwnMembers::part_steps))]
-pub(crate) fn read_parts(
+fn read_parts(
     alloc: Global,
     w: &Folder,
     o: &Oracle,
@@ -198,4 +159,54 @@ pub(crate) fn read_parts(
         diags.append(part)?;
     }
     Ok(diags)
+}
+
+/// All that is checked of the members of a type, as far as the replies tell it, or the first query that has no reply.
+fn read_checks(
+    alloc: Global,
+    w: &Folder,
+    o: &Oracle,
+    t: u32,
+) -> Result<DiagList, Stop<Query<JavaPred>>>
+    requires whole { IsWhole w.now }
+    requires within { t < length w.now.layout.types }
+    ensures { Reads (reply_to o.now) (members_rule w.now.layout w.now.names (type_scope w.now.layout t) (decl_at (folder_of w.now).files t)) result }
+{
+    let decl = w.decl(t);
+    read_members(
+        alloc,
+        w.layout(),
+        w.declarations(),
+        w.names(),
+        o,
+        decl,
+        w.ty(t),
+    )
+}
+
+/// Two lists of diagnostics, one behind the other.
+fn behind(first: DiagList, second: DiagList) -> Result<DiagList, Stop<Query<JavaPred>>>
+    ensures { MatchResult result (λ ds. ds ≡ first ++ second) (λ stop. stop ≡ OutOfMemory) }
+{
+    let mut diags = first;
+    diags.append(second)?;
+    Ok(diags)
+}
+
+/// The diagnostics of the members of a type behind others, as far as the replies tell them, or the first query that has no
+/// reply.
+pub(crate) fn finish_members(
+    alloc: Global,
+    w: &Folder,
+    o: &Oracle,
+    t: u32,
+    before: DiagList,
+) -> Result<DiagList, Stop<Query<JavaPred>>>
+    requires whole { IsWhole w.now }
+    requires within { t < length w.now.layout.types }
+    ensures { Reads (reply_to o.now) (with_members (folder_of w.now) t before) result }
+{
+    let parts = read_parts(alloc, w, o, t, before)?;
+    let checks = read_checks(alloc, w, o, t)?;
+    behind(parts, checks)
 }

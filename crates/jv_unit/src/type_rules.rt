@@ -11,7 +11,7 @@ ghost use Rattle.jv_unit.specs.Kept.{folder_of, IsWhole};
 ghost use Rattle.jv_unit.specs.Plans.{type_stage, type_ending};
 
 use crate::folder::Folder;
-use crate::member_rules::read_parts;
+use crate::member_rules::finish_members;
 use jv_diag::DiagList;
 use jv_header::{declared_diags, read_depends, read_header};
 use jv_instance::{JavaDatum, JavaPred, labels};
@@ -128,5 +128,5 @@ pub(crate) fn finish_type(
     )?;
     let own = declared(alloc, w, decl, ty)?;
     let diags = joined(header.diags, dependence, own)?;
-    read_parts(alloc, w, o, t, diags)
+    finish_members(alloc, w, o, t, diags)
 }

@@ -1,5 +1,5 @@
-//! Folders of sources, checked by their units on one thread in several orders: the diagnostics of headers and declarations, or
-//! who waits for what. The lines are written by hand from the rules in `docs/JAVA-PROFILE.md`.
+//! Folders of sources, checked by their units on one thread in several orders: the diagnostics of headers, declarations and
+//! members, or who waits for what. The lines are written by hand from the rules in `docs/JAVA-PROFILE.md`.
 
 use crate::folder_run::run_folder;
 use crate::sources::{Files, laid_out, trees};
@@ -254,14 +254,14 @@ fn headers_name_types(rt: HostRuntime) -> Result<(), Fail> {
                 ("a/A.java", "package a; class A {}"),
                 ("b/B.java", "package b; class B extends a.A {}"),
             ],
-            "b/B.java:1:28: E22 a.A is not accessible\n",
+            "b/B.java:1:18: E38 no constructor without arguments in a.A\nb/B.java:1:28: E22 a.A is not accessible\n",
         ),
         (
             &[(
                 "A.java",
                 "class S { private static class N {} } class A extends S.N {}",
             )],
-            "A.java:1:55: E22 S.N is not accessible\n",
+            "A.java:1:45: E38 no constructor without arguments in S.N\nA.java:1:55: E22 S.N is not accessible\n",
         ),
         (
             &[("A.java", "interface I {} class A extends I {}")],
@@ -546,6 +546,63 @@ fn members_are_declared(rt: HostRuntime) -> Result<(), Fail> {
         (
             &[("A.java", "interface I { private int x = 1; }")],
             "A.java:1:27: E19 modifiers of x\n",
+        ),
+    ];
+    let wrong = differing(rt.alloc(), &cases)?;
+    assert_eq!(rt; wrong.as_str(), "");
+    Ok(())
+}
+
+#[test]
+fn members_are_checked(rt: HostRuntime) -> Result<(), Fail> {
+    let cases: [Case; 6] = [
+        (
+            &[
+                ("A.java", "class A { public void m() {} }"),
+                ("B.java", "class B extends A { void m() {} }"),
+            ],
+            "B.java:1:26: E33 m has weaker access\n",
+        ),
+        (
+            &[
+                ("A.java", "import p.I; class A implements I {}"),
+                ("p/I.java", "package p; public interface I { int m(); }"),
+            ],
+            "A.java:1:19: E35 must implement m\n",
+        ),
+        (
+            &[
+                ("A.java", "class A { A(int i) {} }"),
+                ("B.java", "class B extends A {}"),
+            ],
+            "B.java:1:7: E38 no constructor without arguments in A\n",
+        ),
+        (
+            &[
+                ("A.java", "class A extends B.I { B.I m() { return null; } }"),
+                (
+                    "B.java",
+                    "class B { static class I { A m() { return null; } } }",
+                ),
+            ],
+            "A.java:1:27: E34 m has another result type\n",
+        ),
+        (
+            &[
+                ("A.java", "class A { Object m() { return null; } }"),
+                (
+                    "B.java",
+                    "class B extends A { String m() { return null; } }",
+                ),
+            ],
+            "",
+        ),
+        (
+            &[
+                ("A.java", "class O { class I {} }"),
+                ("B.java", "class B extends O.I {}"),
+            ],
+            "B.java:1:7: E57 no enclosing instance for O.I\n",
         ),
     ];
     let wrong = differing(rt.alloc(), &cases)?;
