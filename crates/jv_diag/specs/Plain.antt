@@ -1,5 +1,5 @@
 -- Diagnostics as plain data, which rules speak of.
-use Rattle.std.specs.Prelude.{ℕ, List}
+use Rattle.std.specs.Prelude.{ℕ, Bool, cond, List, [], ◌∷◌}
 use Rattle.std.specs.String.{string_bytes}
 use Rattle.std.specs.Str.{chars}
 use Rattle.jv_diag.specs.declared.diagnostic.Diag.{Diag}
@@ -19,3 +19,7 @@ diag_of d = record { file = d.file; at = d.at; code = d.code; text = string_byte
 -- the diagnostic of a code at a place, with these arguments in its text
 abbrev pub diagnostic : ℕ → ℕ → ℕ → List (List ℕ) → DiagOf
 diagnostic file at code args = record { file = file; at = at; code = code; text = filled (chars (text_of code)) args }
+
+-- a diagnostic where there is a fault
+abbrev pub fault_if : Bool → DiagOf → List DiagOf
+fault_if b d = cond b (d ∷ []) []

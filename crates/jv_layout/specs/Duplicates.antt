@@ -26,6 +26,15 @@ name_at l (Signature m) = None
 abbrev pub simple_name : LayoutOf → Scope → Option NameId
 simple_name l s = name_at l (place_of l s)
 
+-- a simple name is this one
+abbrev pub is_this : NameId → Option NameId → Bool
+is_this n None = false
+is_this n (Some m) = m.0 == n.0
+
+-- a scope has this simple name
+abbrev pub is_named : LayoutOf → NameId → Scope → Bool
+is_named l n s = is_this n (simple_name l s)
+
 abbrev pub is_duplicate_at : LayoutOf → Place → Bool
 is_duplicate_at l (Ty t) = not (is_first_type l t)
 is_duplicate_at l (Member m) = not (is_first_member l m)

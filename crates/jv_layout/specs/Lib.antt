@@ -15,3 +15,4 @@ pub mod Laws
 pub mod Examples
 pub mod Duplicates
 pub mod Declarations
+pub mod Words

@@ -1,8 +1,12 @@
 -- The printed names of scopes.
-use Rattle.std.specs.Prelude.{ℕ, zero, suc, List, [], ◌∷◌, ◌++◌, length, map, Option, None, Some, codes}
+use Rattle.std.specs.Prelude.{ℕ, zero, suc, cond, List, [], ◌∷◌, ◌++◌, length, map, Option, None, Some, codes}
 use Rattle.std.specs.List.{join_with_byte, slice_index_or}
 use Rattle.sg_base.specs.declared.scope.Scope.{Scope}
 use Rattle.jv_tree.specs.declared.names.NameId.{NameId}
+use Rattle.jv_instance.specs.declared.ty.Ty.{Ty as JavaType}
+use Rattle.jv_instance.specs.declared.type_base.TypeBase.{TypeBase}
+use Rattle.jv_instance.specs.declared.type_base.TypeBase.TheVariants.{Boolean, Char, Int, Long, Class, Null, Void, Bad}
+use Rattle.jv_instance.specs.Types.{is_bad}
 use Rattle.jv_layout.specs.declared.place.Place.{Place}
 use Rattle.jv_layout.specs.declared.place.Place.TheVariants.{Outside, Root, Unnamed, Package, File, Ty, Member, Signature}
 use Rattle.jv_layout.specs.declared.rows.MemberKind.{MemberKind}
@@ -71,3 +75,25 @@ title_at l names (Signature m) = member_title l names m ++ 33 ∷ []
 -- which is printed as its path, has none here
 abbrev pub title_of : LayoutOf → List (List ℕ) → Scope → List ℕ
 title_of l names s = title_at l names (place_of l s)
+
+-- ---- types
+
+-- so many pairs of brackets
+abbrev pub brackets : ℕ → List ℕ
+brackets zero = []
+brackets (suc n) = 91 ∷ 93 ∷ brackets n
+
+-- a type without its brackets: a primitive type, `null` and `void` by their words, a class or an interface by its title
+abbrev pub base_text : LayoutOf → List (List ℕ) → TypeBase → List ℕ
+base_text l names Boolean = codes "boolean"
+base_text l names Char = codes "char"
+base_text l names Int = codes "int"
+base_text l names Long = codes "long"
+base_text l names (Class s) = title_of l names s
+base_text l names Null = codes "null"
+base_text l names Void = codes "void"
+base_text l names Bad = codes "?"
+
+-- the printed name of a type: its base, and behind it its brackets. A bad type is a question mark, whatever its brackets
+abbrev pub type_text : LayoutOf → List (List ℕ) → JavaType → List ℕ
+type_text l names t = cond (is_bad t) (codes "?") (base_text l names t.base ++ brackets t.dims)

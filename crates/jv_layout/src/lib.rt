@@ -2,7 +2,7 @@
 //!
 //! `specs/Folder.antt` says what the trees of the files declare, `specs/Scopes.antt` the numbers of scopes,
 //! `specs/Readers.antt` what a layout says of a scope, `specs/Skeleton.antt` the graph with which a run begins: each
-//! kind of edge, the data, and who holds what, `specs/Titles.antt` the printed names of scopes. `layout` collects
+//! kind of edge, the data, and who holds what, `specs/Titles.antt` the printed names of scopes and types. `layout` collects
 //! packages, types and members from the trees, where `is_folder` says that they are not too many; a `Layout` has its
 //! readers, `fits` and `title`, and its `opening` is that graph. Which types and members are duplicates is found by keys
 //! (`specs/Keys.antt`). Nothing here looks into expressions.
@@ -32,6 +32,8 @@ mod tables;
 #[cfg(test)]
 mod tests;
 mod titles;
+mod type_texts;
+pub mod words;
 
 pub use build::layout;
 pub use declarations::Declarations;

@@ -2,7 +2,7 @@
 
 ghost use Rattle.std.specs.Prelude.{◌≡◌, ◌<◌, ◌^◌, length, map, option_map};
 ghost use Rattle.jv_layout.specs.Readers.{type_at, owner_of, file_package, is_interface_at, lies_in_interface, written_access, type_access, member_at, member_access_by, access_of, is_static_type, is_static_of, is_final_of, is_abstract_of, is_interface_of, file_of, owner_scope, package_of, top_of, signature_scope, members_of, members_of_type, types_of, object_scope, string_scope};
-ghost use Rattle.jv_layout.specs.Duplicates.{simple_name};
+ghost use Rattle.jv_layout.specs.Duplicates.{simple_name, is_named};
 ghost use Rattle.jv_layout.specs.Scopes.{root_scope, file_scope, type_scope, member_scope, scope_count};
 
 use crate::place::Place;
@@ -194,6 +194,16 @@ impl Layout {
             Place::Ty(t) => Some(self.type_row(t).name),
             Place::Member(m) => Some(self.member_row(m).name),
             _ => None,
+        }
+    }
+
+    /// Whether a scope has this simple name. It takes constant time.
+    pub fn is_named(&self, name: NameId, s: Scope) -> bool
+        ensures { result ≡ is_named self.now name s }
+    {
+        match self.simple_name(s) {
+            None => false,
+            Some(found) => found == name,
         }
     }
 

@@ -1,8 +1,9 @@
 //! What a layout keeps of each package, type and member.
 
 ghost use Rattle.std.specs.Prelude.{◌≡◌};
-ghost use Rattle.jv_layout.specs.Folder.{is_written, modifiers_of, no_modifiers};
+ghost use Rattle.jv_layout.specs.Folder.{modifiers_of, no_modifiers};
 
+use crate::words::{ABSTRACT, FINAL, PRIVATE, PROTECTED, PUBLIC, STATIC, is_written};
 use jv_tree::{Mods, NameId};
 
 /// Which modifiers are written at a declaration (JLS 8.1.1, 8.3.1, 8.4.3).
@@ -36,21 +37,14 @@ impl Modifiers {
         ensures { result ≡ modifiers_of mods.now.words.items }
     {
         Modifiers {
-            is_public: is_written(34, &mods.words),
-            is_protected: is_written(33, &mods.words),
-            is_private: is_written(32, &mods.words),
-            is_static: is_written(37, &mods.words),
-            is_abstract: is_written(0, &mods.words),
-            is_final: is_written(17, &mods.words),
+            is_public: is_written(PUBLIC, &mods.words),
+            is_protected: is_written(PROTECTED, &mods.words),
+            is_private: is_written(PRIVATE, &mods.words),
+            is_static: is_written(STATIC, &mods.words),
+            is_abstract: is_written(ABSTRACT, &mods.words),
+            is_final: is_written(FINAL, &mods.words),
         }
     }
-}
-
-/// Whether a keyword stands among words.
-fn is_written(keyword: u8, words: &[u8]) -> bool
-    ensures { result ≡ is_written keyword words.now }
-{
-    words.iter().any(|word| *word == keyword)
 }
 
 /// A package: the number of the package that encloses it, where one does, and its simple name.

@@ -7,7 +7,7 @@
 use crate::small_folder::{files_of_packages, small_files, small_names};
 use crate::tables::scope_at;
 use crate::{Layout, LayoutFault, Place, is_folder, layout};
-use jv_instance::{JavaDatum, labels};
+use jv_instance::{JavaDatum, Ty, TypeBase, labels};
 use jv_tree::{NameId, Unit};
 use sg_base::Scope;
 use sg_state::Opening;
@@ -118,6 +118,50 @@ fn scopes_have_titles(rt: HostRuntime) -> Result<(), Fail> {
     for (serial, wanted) in TITLES {
         let found = layout.title(rt.alloc(), &names, scope_at(serial))?;
         assert_eq!(rt; found.as_str(), wanted, "{serial}");
+    }
+    Ok(())
+}
+
+// A class by its serial and its brackets, and its text.
+const CLASS_TEXTS: [(u32, u8, &str); 5] = [
+    (9, 0, "java.lang.Object"),
+    (12, 0, "p.A.B"),
+    (13, 1, "p.A[]"),
+    (15, 2, "I.B[][]"),
+    (40, 1, "[]"),
+];
+
+#[test]
+fn classes_have_texts(rt: HostRuntime) -> Result<(), Fail> {
+    let layout = small_layout(rt.alloc())?;
+    let names = small_names(rt.alloc())?;
+    for (serial, dims, wanted) in CLASS_TEXTS {
+        let base = TypeBase::Class(scope_at(serial));
+        let found = layout.type_text(rt.alloc(), &names, Ty { base, dims })?;
+        assert_eq!(rt; found.as_str(), wanted, "{serial}");
+    }
+    Ok(())
+}
+
+// A base that is no class and its brackets, and its text.
+const PLAIN_TEXTS: [(TypeBase, u8, &str); 8] = [
+    (TypeBase::Boolean, 0, "boolean"),
+    (TypeBase::Char, 1, "char[]"),
+    (TypeBase::Int, 0, "int"),
+    (TypeBase::Long, 3, "long[][][]"),
+    (TypeBase::Null, 0, "null"),
+    (TypeBase::Void, 0, "void"),
+    (TypeBase::Bad, 0, "?"),
+    (TypeBase::Bad, 2, "?"),
+];
+
+#[test]
+fn plain_types_have_texts(rt: HostRuntime) -> Result<(), Fail> {
+    let layout = small_layout(rt.alloc())?;
+    let names = small_names(rt.alloc())?;
+    for (base, dims, wanted) in PLAIN_TEXTS {
+        let found = layout.type_text(rt.alloc(), &names, Ty { base, dims })?;
+        assert_eq!(rt; found.as_str(), wanted);
     }
     Ok(())
 }
