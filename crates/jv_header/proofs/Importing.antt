@@ -3,14 +3,13 @@ use Rattle.std.proofs.Common.{◌≡◌, ℕ, ◌≤◌, ◌⊎◌, inl, inr, Bo
 use Rattle.std.specs.Prelude.{not}
 use Rattle.std.proofs.lemmas.List.{at_drop_all}
 use Rattle.sg_base.specs.declared.scope.Scope.{Scope}
-use Rattle.jv_diag.specs.Plain.{DiagOf}
+use Rattle.jv_diag.specs.Plain.{DiagOf, fault_if}
 use Rattle.jv_layout.specs.Folder.{LayoutOf}
 use Rattle.jv_tree.specs.declared.declaration.Import.{Import}
 use Rattle.jv_tree.specs.declared.name.Ident.{Ident}
 use Rattle.jv_tree.specs.declared.names.NameId.{NameId}
 use Rattle.jv_tree.specs.DeclTree.{TypeDeclTree, ImportTree, import_tree}
 use Rattle.jv_names.specs.declared.reference.Reference.{Reference}
-use Rattle.jv_header.specs.Header.{fault_if}
 use Rattle.jv_header.specs.Imports.{ImportsOf, at_import, by_clashes, declares, imports_from, is_own, is_taken, last_name, with_single}
 
 -- the last identifier of a name

@@ -2,26 +2,17 @@
 use Rattle.std.specs.Prelude.{ℕ, List, [], ◌∷◌, ◌++◌, Bool, true, false, not, cond, ◌==◌, ◌&&◌, ◌||◌, Option, None, Some}
 use Rattle.std.specs.List.{list_any, list_all}
 use Rattle.sg_base.specs.declared.scope.Scope.{Scope}
-use Rattle.jv_diag.specs.Plain.{DiagOf, diagnostic}
-use Rattle.jv_layout.specs.Duplicates.{simple_name, is_duplicate, has_subpackage}
+use Rattle.jv_diag.specs.Plain.{DiagOf, diagnostic, fault_if}
+use Rattle.jv_layout.specs.Duplicates.{is_named, is_duplicate, has_subpackage}
 use Rattle.jv_layout.specs.Folder.{LayoutOf, text_of, is_written}
 use Rattle.jv_layout.specs.Readers.{file_of, package_of, owner_scope, is_interface_of, is_static_of}
 use Rattle.jv_layout.specs.Titles.{title_of}
+use Rattle.jv_layout.specs.Words.{has_repeat, has_two_accesses, has_other}
 use Rattle.jv_tree.specs.declared.name.Ident.{Ident}
 use Rattle.jv_tree.specs.declared.names.NameId.{NameId}
 use Rattle.jv_names.specs.Bodies.{header_bodies}
-use Rattle.jv_header.specs.Header.{fault_if}
 
 -- ---- names
-
--- a simple name is this one
-abbrev pub is_this : NameId → Option NameId → Bool
-is_this n None = false
-is_this n (Some m) = m.0 == n.0
-
--- a scope has this simple name
-abbrev pub is_named : LayoutOf → NameId → Scope → Bool
-is_named l n s = is_this n (simple_name l s)
 
 -- some type whose body encloses a type has this name
 abbrev pub encloses_name : LayoutOf → NameId → Scope → Bool
@@ -34,23 +25,10 @@ is_package_too l c n (Some d) = false
 
 -- ---- modifiers, by the numbers of their keywords: abstract 0, final 17, private 32, protected 33, public 34, static 37
 
--- a word stands twice
-abbrev pub has_repeat : List ℕ → Bool
-has_repeat [] = false
-has_repeat (w ∷ ws) = is_written w ws || has_repeat ws
-
--- two of public, protected and private stand
-abbrev pub has_two_accesses : List ℕ → Bool
-has_two_accesses ws = (is_written 34 ws && is_written 33 ws) || ((is_written 34 ws && is_written 32 ws) || (is_written 33 ws && is_written 32 ws))
-
--- a modifier may stand at a type with this owner: at the top public, abstract and final, in an interface static too, and in a class all six
-abbrev pub is_allowed : LayoutOf → Option Scope → ℕ → Bool
-is_allowed l None w = is_written w (34 ∷ 0 ∷ 17 ∷ [])
-is_allowed l (Some d) w = cond (is_interface_of l d) (is_written w (34 ∷ 37 ∷ 0 ∷ 17 ∷ [])) (is_written w (34 ∷ 33 ∷ 32 ∷ 37 ∷ 0 ∷ 17 ∷ []))
-
--- a word stands that is not allowed there
-abbrev pub has_other : LayoutOf → Option Scope → List ℕ → Bool
-has_other l o ws = list_any (λ w. not (is_allowed l o w)) ws
+-- the modifiers that may stand at a type with this owner: at the top public, abstract and final, in an interface static too, and in a class all six
+abbrev pub of_types : LayoutOf → Option Scope → List ℕ
+of_types l None = 34 ∷ 0 ∷ 17 ∷ []
+of_types l (Some d) = cond (is_interface_of l d) (34 ∷ 37 ∷ 0 ∷ 17 ∷ []) (34 ∷ 33 ∷ 32 ∷ 37 ∷ 0 ∷ 17 ∷ [])
 
 -- a static type stands in an inner class, which is a member class that is not static
 abbrev pub is_static_in_inner : LayoutOf → Scope → Option Scope → Bool
@@ -61,7 +39,7 @@ is_static_in_inner l c (Some d) = is_static_of l c && not (is_static_of l d)
 -- and final, or a member of an inner class is static
 abbrev pub has_bad_modifiers : LayoutOf → Scope → List ℕ → Bool
 has_bad_modifiers l c ws =
-    has_repeat ws || (has_two_accesses ws || (has_other l (owner_scope l c) ws || ((is_interface_of l c && is_written 17 ws)
+    has_repeat ws || (has_two_accesses ws || (has_other (of_types l (owner_scope l c)) ws || ((is_interface_of l c && is_written 17 ws)
     || ((is_written 0 ws && is_written 17 ws) || is_static_in_inner l c (owner_scope l c)))))
 
 -- ---- the whole

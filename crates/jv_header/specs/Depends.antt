@@ -6,7 +6,7 @@ use Rattle.sg_base.specs.Scope.{is_scope}
 use Rattle.sg_query.specs.declared.answer.Answer.{Answer}
 use Rattle.sg_query.specs.declared.answer.Answer.TheVariants.{Paths, TooMany}
 use Rattle.sg_reading.specs.Reading.{done, ask, and_then}
-use Rattle.jv_diag.specs.Plain.{DiagOf, diagnostic}
+use Rattle.jv_diag.specs.Plain.{DiagOf, diagnostic, fault_if}
 use Rattle.jv_instance.specs.declared.datum.JavaDatum.{JavaDatum}
 use Rattle.jv_layout.specs.Folder.{LayoutOf, text_of}
 use Rattle.jv_layout.specs.Readers.{file_of}
@@ -17,7 +17,6 @@ use Rattle.jv_names.specs.declared.kinds.TheConstants.{SUPERS}
 use Rattle.jv_names.specs.Ends.{has_end}
 use Rattle.jv_names.specs.Replies.{Rule, for_any}
 use Rattle.jv_header.specs.declared.dependence.Dependence.{Dependence}
-use Rattle.jv_header.specs.Header.{fault_if}
 
 -- whether there were too many paths to look at
 abbrev pub is_too_many : Answer JavaDatum → Bool

@@ -4,7 +4,7 @@ use Rattle.std.specs.List.{list_any}
 use Rattle.sg_base.specs.declared.scope.Scope.{Scope}
 use Rattle.sg_base.specs.Scope.{is_scope}
 use Rattle.sg_reading.specs.Reading.{done, and_then, each}
-use Rattle.jv_diag.specs.Plain.{DiagOf, diagnostic}
+use Rattle.jv_diag.specs.Plain.{DiagOf, diagnostic, fault_if}
 use Rattle.jv_layout.specs.Folder.{LayoutOf}
 use Rattle.jv_layout.specs.Readers.{file_of, is_interface_of, is_final_of, object_scope}
 use Rattle.jv_layout.specs.Titles.{title_of}
@@ -42,10 +42,6 @@ abbrev pub supertypes : LayoutOf → Scope → List Reference → List Reference
 supertypes l c es is = cond (is_scope c (object_scope l)) [] (cond (is_interface_of l c) (found_types es) (or_object l (found_types es)) ++ found_types is)
 
 -- ---- diagnostics
-
--- a diagnostic, where a fault is there
-abbrev pub fault_if : Bool → DiagOf → List DiagOf
-fault_if b d = cond b (d ∷ []) []
 
 -- a code with the title of a type at a reference's first token
 abbrev pub at_reference : LayoutOf → List (List ℕ) → ℕ → ℕ → List Ident → Scope → DiagOf

@@ -5,7 +5,7 @@ use Rattle.sg_base.specs.declared.scope.Scope.{Scope}
 use Rattle.sg_base.specs.Graph.{Edge}
 use Rattle.sg_base.specs.Scope.{is_scope}
 use Rattle.sg_reading.specs.Reading.{done, and_then, each}
-use Rattle.jv_diag.specs.Plain.{DiagOf, diagnostic}
+use Rattle.jv_diag.specs.Plain.{DiagOf, diagnostic, fault_if}
 use Rattle.jv_instance.specs.declared.labels.TheConstants.{SIMP, ODI}
 use Rattle.jv_layout.specs.Folder.{LayoutOf, text_of}
 use Rattle.jv_layout.specs.Readers.{file_of, owner_scope}
@@ -20,7 +20,6 @@ use Rattle.jv_names.specs.Names.{import_name}
 use Rattle.jv_names.specs.Reference.{refused, access_diags}
 use Rattle.jv_names.specs.Replies.{Rule}
 use Rattle.jv_names.specs.Written.{written, start_of}
-use Rattle.jv_header.specs.Header.{fault_if}
 
 -- ---- one import
 

@@ -7,7 +7,7 @@ ghost use Rattle.sg_base.specs.Scope.{is_scope};
 ghost use Rattle.jv_diag.specs.Text.{takes};
 ghost use Rattle.jv_layout.specs.Readers.{file_of};
 ghost use Rattle.jv_tree.specs.TypeTree.{ids_of};
-ghost use Rattle.jv_header.specs.Header.{one_of, fault_if, at_reference, superclass_diags, stands_among, interface_diags, class_clause, interface_clause, extends_diags};
+ghost use Rattle.jv_header.specs.Header.{one_of, at_reference, superclass_diags, stands_among, interface_diags, class_clause, interface_clause, extends_diags};
 
 use jv_diag::DiagList;
 use jv_layout::Layout;

@@ -1,50 +1,31 @@
 //! What is wrong with the declaration of a type itself.
 
 ghost use Rattle.std.specs.Prelude.{◌≡◌, [], ◌∷◌, ◌++◌, IfOk, OnOk, Some};
-ghost use Rattle.jv_diag.specs.Plain.{diagnostic};
+ghost use Rattle.jv_diag.specs.Plain.{diagnostic, fault_if};
 ghost use Rattle.jv_diag.specs.Text.{takes};
-ghost use Rattle.jv_layout.specs.Folder.{text_of, is_written};
+ghost use Rattle.jv_layout.specs.Folder.{text_of};
 ghost use Rattle.jv_layout.specs.Readers.{owner_scope, file_of};
 ghost use Rattle.jv_layout.specs.Titles.{title_of};
-ghost use Rattle.jv_header.specs.Header.{fault_if};
-ghost use Rattle.jv_header.specs.Declaration.{is_named, encloses_name, is_package_too, has_repeat, has_two_accesses, is_allowed, has_other, is_static_in_inner, has_bad_modifiers, declared_diags};
+ghost use Rattle.jv_layout.specs.Words.{has_other};
+ghost use Rattle.jv_header.specs.Declaration.{encloses_name, is_package_too, of_types, is_static_in_inner, has_bad_modifiers, declared_diags};
 
 use jv_diag::DiagList;
+use jv_layout::words::{
+    ABSTRACT, FINAL, PRIVATE, PROTECTED, PUBLIC, STATIC, has_other, has_repeat, has_two_accesses,
+    is_written,
+};
 use jv_layout::{Declarations, Layout, text_of};
 use jv_names::Spot;
 use jv_tree::{Ident, NameId, Names, TypeDecl};
 use sg_base::Scope;
 use std::alloc::{AllocError, Global};
 
-// The numbers of the keywords that are modifiers of types.
-const ABSTRACT: u8 = 0;
-
-const FINAL: u8 = 17;
-
-const PRIVATE: u8 = 32;
-
-const PROTECTED: u8 = 33;
-
-const PUBLIC: u8 = 34;
-
-const STATIC: u8 = 37;
-
-/// Whether a scope has this simple name.
-fn is_named(l: &Layout, name: NameId, s: Scope) -> bool
-    ensures { result ≡ is_named l.now name s }
-{
-    match l.simple_name(s) {
-        Some(own) => own == name,
-        None => false,
-    }
-}
-
 /// Whether some type whose body encloses a type has this name. It takes time in how deep the type is nested.
 fn encloses_name(alloc: Global, l: &Layout, name: NameId, ty: Scope) -> Result<bool, AllocError>
     ensures { IfOk result (λ b. b ≡ encloses_name l.now name ty) }
 {
     let spot = Spot::of_header(alloc, l, ty)?;
-    Ok(spot.inside.iter().any(|body| is_named(l, name, *body)))
+    Ok(spot.inside.iter().any(|body| l.is_named(name, *body)))
 }
 
 /// Whether a top-level type has the name of a package directly in its package.
@@ -58,60 +39,23 @@ fn is_package_too(l: &Layout, declarations: &Declarations, name: NameId, ty: Sco
     }
 }
 
-/// Whether a modifier is written.
-fn is_written(word: u8, words: &[u8]) -> bool
-    ensures { result ≡ is_written word words.now }
-{
-    words.contains(&word)
-}
-
-/// Whether a modifier stands twice. A type has at most as many different ones as there are modifiers.
-fn has_repeat(words: &[u8]) -> bool
-    ensures { result ≡ has_repeat words.now }
-{
-    let mut rest = words;
-    while let [word, more @ ..] = rest {
-        if is_written(*word, more) {
-            return true;
-        }
-        rest = more;
-    }
-    false
-}
-
-/// Whether two of public, protected and private stand.
-fn has_two_accesses(words: &[u8]) -> bool
-    ensures { result ≡ has_two_accesses words.now }
-{
-    is_written(PUBLIC, words) && is_written(PROTECTED, words)
-        || (is_written(PUBLIC, words) && is_written(PRIVATE, words)
-            || is_written(PROTECTED, words) && is_written(PRIVATE, words))
-}
-
-/// Whether a modifier may stand at a type with this owner.
-fn is_allowed(l: &Layout, owner: Option<Scope>, word: u8) -> bool
-    ensures { result ≡ is_allowed l.now owner word }
+/// Whether a modifier stands that is not allowed at a type with this owner.
+fn has_other_words(l: &Layout, owner: Option<Scope>, words: &[u8]) -> bool
+    ensures { result ≡ has_other (of_types l.now owner) words.now }
 {
     match owner {
-        None => matches!(word, PUBLIC | ABSTRACT | FINAL),
+        None => has_other(&[PUBLIC, ABSTRACT, FINAL], words),
         Some(outer) => {
             if l.is_interface(outer) {
-                matches!(word, PUBLIC | STATIC | ABSTRACT | FINAL)
+                has_other(&[PUBLIC, STATIC, ABSTRACT, FINAL], words)
             } else {
-                matches!(
-                    word,
-                    PUBLIC | PROTECTED | PRIVATE | STATIC | ABSTRACT | FINAL
+                has_other(
+                    &[PUBLIC, PROTECTED, PRIVATE, STATIC, ABSTRACT, FINAL],
+                    words,
                 )
             }
         }
     }
-}
-
-/// Whether a modifier stands that is not allowed.
-fn has_other(l: &Layout, owner: Option<Scope>, words: &[u8]) -> bool
-    ensures { result ≡ has_other l.now owner words.now }
-{
-    words.iter().any(|word| !is_allowed(l, owner, *word))
 }
 
 /// Whether a static type stands in an inner class.
@@ -131,7 +75,7 @@ fn has_bad_modifiers(l: &Layout, ty: Scope, words: &[u8]) -> bool
     let owner = l.owner(ty);
     has_repeat(words)
         || (has_two_accesses(words)
-            || (has_other(l, owner, words)
+            || (has_other_words(l, owner, words)
                 || (l.is_interface(ty) && is_written(FINAL, words)
                     || (is_written(ABSTRACT, words) && is_written(FINAL, words)
                         || is_static_in_inner(l, ty, owner)))))

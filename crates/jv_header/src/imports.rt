@@ -6,14 +6,13 @@ ghost use Rattle.std.specs.HashMap.{get_by};
 ghost use Rattle.sg_reading.specs.Reading.{each};
 ghost use Rattle.sg_reading.specs.Stop.{Reads, IsKnown};
 ghost use Rattle.sg_reading.specs.declared.stop.Stop.TheVariants.{OutOfMemory};
-ghost use Rattle.jv_diag.specs.Plain.{diagnostic};
+ghost use Rattle.jv_diag.specs.Plain.{diagnostic, fault_if};
 ghost use Rattle.jv_diag.specs.Text.{takes};
 ghost use Rattle.jv_tree.specs.DeclTree.{import_tree, tree_of, type_decl_tree};
 ghost use Rattle.jv_names.specs.Reference.{access_diags, refused};
 ghost use Rattle.jv_names.specs.Replies.{reply_to};
 ghost use Rattle.jv_names.specs.Written.{start_of, written};
 ghost use Rattle.jv_header.specs.Clashes.{AreBrought, AreNamesOf, is_other};
-ghost use Rattle.jv_header.specs.Header.{fault_if};
 ghost use Rattle.jv_header.specs.Imports.{at_import, declares, is_own, import_reference, imports_from, imports_rule, no_imports, with_import, with_meaning, with_single};
 
 use crate::clashes::{bring, is_own, is_taken, last_name, own_names};

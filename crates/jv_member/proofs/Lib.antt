@@ -1,7 +1,5 @@
 pub mod Steps
 pub mod Bounds
-pub mod ReadSteps
-pub mod ResultSteps
 pub mod Clashes
 pub mod PairSteps
 pub mod AboveSteps
@@ -11,6 +9,5 @@ pub mod MeetingSteps
 pub mod GroupSteps
 pub mod CtorSteps
 pub mod MemberSteps
-pub mod Listed
 pub mod GroupsListed
 pub mod MembersAsked

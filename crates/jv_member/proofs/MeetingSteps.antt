@@ -14,7 +14,7 @@ use Rattle.jv_instance.specs.declared.datum.JavaDatum.{JavaDatum}
 use Rattle.jv_instance.specs.declared.pred.JavaPred.{JavaPred}
 use Rattle.jv_layout.specs.Folder.{LayoutOf}
 use Rattle.jv_names.specs.Replies.{Rule}
-use Rattle.jv_member.specs.Read.{SignatureOf, result_fits}
+use Rattle.jv_names.specs.Read.{SignatureOf, result_fits}
 use Rattle.jv_member.specs.Overriding.{meets, is_other, fits_each, some_fits}
 
 abbrev Replies : Type 0

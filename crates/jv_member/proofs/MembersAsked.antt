@@ -51,10 +51,10 @@ use Rattle.jv_member.specs.Declaration.{joined}
 use Rattle.jv_member.specs.Members.{Placed, check_by, member_calls, member_overrides, overrides, placed}
 use Rattle.jv_member.specs.Overriding.{against, all_groups, code_diags, concrete_codes, declares_one, first_concrete, fits_each, group_rule, groups_of, inherited_rule, is_method_named, is_other, is_weaker, meeting, meeting_code, meeting_codes, meets, met_codes, method_rule, object_methods, on_whole, overriding, overriding_code, params_differ, signature_among, some_fits, static_differs, weaker_or_other, whole_methods, with_objects}
 use Rattle.jv_member.specs.Own.{OwnMember, own_field, own_method, own_ctor, default_ctor, own_members}
-use Rattle.jv_member.specs.Read.{SignatureOf, answer_ctor, answer_signature, base_fits, base_in, ctor_of, is_whole, one_ctor, one_signature, result_fits, same_types, signature_in, signature_of}
+use Rattle.jv_names.specs.Read.{SignatureOf, answer_ctor, answer_signature, base_fits, base_in, ctor_of, is_whole, one_ctor, one_signature, result_fits, same_types, signature_in, signature_of}
 use Rattle.jv_member.proofs.Bounds.{own_members_are_numbered}
 use Rattle.jv_member.proofs.GroupsListed.{IsGrouped, groups_all, puts_all}
-use Rattle.jv_member.proofs.Listed.{IsListed, member_is_listed, members_listed, start_is_listed, type_is_listed}
+use Rattle.jv_names.proofs.Listed.{IsListed, member_is_listed, members_listed, start_is_listed, type_is_listed}
 
 -- ---- what answers tell
 

@@ -3,7 +3,7 @@ use Rattle.std.proofs.Common.{◌≡◌, Bool, not, List, [], ◌∷◌, ◌++�
 use Rattle.std.proofs.lemmas.List.{append-nil}
 use Rattle.std.specs.List.{list_any}
 use Rattle.sg_base.specs.declared.scope.Scope.{Scope}
-use Rattle.jv_member.specs.Read.{SignatureOf, same_types}
+use Rattle.jv_names.specs.Read.{SignatureOf, same_types}
 use Rattle.jv_member.specs.Overriding.{whole_methods, params_differ}
 
 -- where no signature is left, no method is

@@ -4,20 +4,17 @@ use Rattle.std.specs.List.{flat_map, list_any}
 use Rattle.std.specs.Ordering.{is_eq, nat_cmp}
 use Rattle.std.specs.Cmp.Lexicographic.{slice_cmp}
 use Rattle.sg_base.specs.declared.scope.Scope.{Scope}
-use Rattle.jv_diag.specs.Plain.{DiagOf, diagnostic}
+use Rattle.jv_diag.specs.Plain.{DiagOf, diagnostic, fault_if}
 use Rattle.jv_layout.specs.Duplicates.{is_duplicate}
 use Rattle.jv_layout.specs.Folder.{LayoutOf, text_of, is_written}
 use Rattle.jv_layout.specs.Readers.{file_of, is_interface_of, is_static_of}
+use Rattle.jv_layout.specs.Words.{has_repeat, has_two_accesses, has_other}
 use Rattle.jv_tree.specs.declared.name.Ident.{Ident}
 use Rattle.jv_tree.specs.declared.names.NameId.{NameId}
 use Rattle.jv_tree.specs.DeclTree.{MethodTree}
 use Rattle.jv_tree.specs.StmtTree.{VarTree}
 use Rattle.jv_tree.specs.TypeTree.{BaseTree, boolean, char, int, long, void, named, TypeTree}
 use Rattle.jv_member.specs.Own.{OwnMember, own_field, own_method, own_ctor, default_ctor}
-
--- diagnostics where there is a fault
-abbrev pub fault_if : Bool → DiagOf → List DiagOf
-fault_if b d = cond b (d ∷ []) []
 
 -- the diagnostics of several lists, one after another
 abbrev pub joined : List (List DiagOf) → List DiagOf
@@ -28,19 +25,6 @@ abbrev pub at_name : LayoutOf → List (List ℕ) → Scope → ℕ → Ident �
 at_name l names c code i = diagnostic (file_of l c) i.at code (text_of names i.id.0 ∷ [])
 
 -- ---- modifiers, by the numbers of their keywords: abstract 0, final 17, private 32, protected 33, public 34, static 37
-
--- a word stands twice
-abbrev pub has_repeat : List ℕ → Bool
-has_repeat [] = false
-has_repeat (w ∷ ws) = is_written w ws || has_repeat ws
-
--- two of public, protected and private stand
-abbrev pub has_two_accesses : List ℕ → Bool
-has_two_accesses ws = (is_written 34 ws && is_written 33 ws) || ((is_written 34 ws && is_written 32 ws) || (is_written 33 ws && is_written 32 ws))
-
--- a word stands that is none of those which may
-abbrev pub has_other : List ℕ → List ℕ → Bool
-has_other allowed ws = list_any (λ w. not (is_written w allowed)) ws
 
 -- the modifiers that may stand at a field, at a method and at a constructor, of an interface or of a class
 abbrev pub of_fields : Bool → List ℕ

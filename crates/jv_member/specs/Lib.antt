@@ -7,7 +7,6 @@ pub mod Members
 pub mod Overriding
 pub mod Own
 pub mod Placed
-pub mod Read
 pub mod Signatures
 pub mod MemberDecls
 pub mod Law

@@ -7,25 +7,22 @@ use Rattle.sg_base.specs.declared.scope.Scope.{Scope}
 use Rattle.sg_base.specs.Scope.{is_scope, scope_cmp}
 use Rattle.sg_reading.specs.Reading.{done, and_then, each}
 use Rattle.sg_state.specs.Held.{put}
-use Rattle.jv_diag.specs.Plain.{DiagOf, diagnostic}
+use Rattle.jv_diag.specs.Plain.{DiagOf, diagnostic, fault_if}
 use Rattle.jv_instance.specs.declared.access.Access.{Access}
 use Rattle.jv_instance.specs.declared.access.Access.TheVariants.{Public, Protected, Package, Private}
-use Rattle.jv_instance.specs.declared.labels.TheConstants.{METH}
 use Rattle.jv_layout.specs.Duplicates.{simple_name}
-use Rattle.jv_layout.specs.Fits.{is_member_by}
 use Rattle.jv_layout.specs.Folder.{LayoutOf, text_of}
-use Rattle.jv_layout.specs.Readers.{access_of, file_of, is_abstract_of, is_final_of, is_interface_of, is_static_of, members_of, object_scope, owner_scope}
-use Rattle.jv_layout.specs.Scopes.{place_of}
+use Rattle.jv_layout.specs.Readers.{access_of, file_of, is_abstract_of, is_final_of, is_interface_of, is_static_of, owner_scope}
 use Rattle.jv_tree.specs.declared.name.Ident.{Ident}
 use Rattle.jv_tree.specs.declared.names.NameId.{NameId}
 use Rattle.jv_names.specs.declared.counts.Counts.TheVariants.{Methods}
 use Rattle.jv_names.specs.declared.ends.Ends.{Ends}
 use Rattle.jv_names.specs.declared.ends.Ends.TheVariants.{Scopes, TooMany}
 use Rattle.jv_names.specs.declared.kinds.TheConstants.{METHODS, ABOVE}
-use Rattle.jv_names.specs.Members.{find_ends}
+use Rattle.jv_names.specs.Members.{find_ends, object_methods}
+use Rattle.jv_names.specs.Read.{SignatureOf, signature_of, is_whole, same_types, result_fits}
 use Rattle.jv_names.specs.Replies.{Rule, for_any, for_name}
-use Rattle.jv_member.specs.Declaration.{fault_if, joined}
-use Rattle.jv_member.specs.Read.{SignatureOf, signature_of, is_whole, same_types, result_fits}
+use Rattle.jv_member.specs.Declaration.{joined}
 
 -- a code at an identifier of a type's file, with the text of a name
 abbrev pub named_diag : LayoutOf → List (List ℕ) → Scope → ℕ → Ident → NameId → DiagOf
@@ -80,19 +77,6 @@ code_diags l names c place n (None ∷ cs) = code_diags l names c place n cs
 code_diags l names c place n (Some k ∷ cs) = named_diag l names c k place n ∷ code_diags l names c place n cs
 
 -- ---- methods that a type declares
-
--- a simple name is this one
-abbrev pub is_this : NameId → Option NameId → Bool
-is_this n None = false
-is_this n (Some m) = m.0 == n.0
-
--- a member is a method with this name
-abbrev pub is_method_named : LayoutOf → NameId → Scope → Bool
-is_method_named l n m = is_member_by l METH (place_of l m) && is_this n (simple_name l m)
-
--- the methods of `Object` with a name
-abbrev pub object_methods : LayoutOf → NameId → List Scope
-object_methods l n = filter (is_method_named l n) (members_of l (object_scope l))
 
 -- what a method of a type is declared over: the methods above the type, and for an interface those of `Object` too (JLS 9.2)
 abbrev pub with_objects : LayoutOf → Scope → NameId → List Scope → List Scope

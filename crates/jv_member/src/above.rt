@@ -8,15 +8,15 @@ ghost use Rattle.sg_reading.specs.declared.stop.Stop.TheVariants.{OutOfMemory};
 ghost use Rattle.sg_state.specs.Held.{put};
 ghost use Rattle.jv_diag.specs.Text.{takes};
 ghost use Rattle.jv_names.specs.Replies.{reply_to};
-ghost use Rattle.jv_member.specs.Overriding.{named_diag, code_diags, overriding, is_this, is_method_named, object_methods, with_objects, against, method_rule};
+ghost use Rattle.jv_member.specs.Overriding.{named_diag, code_diags, overriding, with_objects, against, method_rule};
 
 use crate::clash::Clash;
 use crate::codes::{Codes, add_codes};
 use crate::pairs::read_overriding;
 use jv_diag::DiagList;
-use jv_instance::{JavaPred, labels};
+use jv_instance::JavaPred;
 use jv_layout::{Layout, text_of};
-use jv_names::{Counts, Ends, Oracle, find_ends, for_name, kinds};
+use jv_names::{Counts, Ends, Oracle, find_ends, for_name, kinds, object_methods};
 use jv_tree::{Ident, NameId, Names};
 use sg_base::{Scope, ScopeSet};
 use sg_query::Query;
@@ -64,23 +64,6 @@ pub fn code_diags(
     Ok(diags)
 }
 
-/// Whether a simple name is this one.
-fn is_this(name: NameId, other: Option<NameId>) -> bool
-    ensures { result ≡ is_this name other }
-{
-    match other {
-        None => false,
-        Some(found) => found == name,
-    }
-}
-
-/// Whether a member is a method with this name.
-fn is_method_named(l: &Layout, name: NameId, member: Scope) -> bool
-    ensures { result ≡ is_method_named l.now name member }
-{
-    l.is_member_by(labels::METH, l.place(member)) && is_this(name, l.simple_name(member))
-}
-
 /// Puts a scope to a set.
 #[tactic(auto, using(crate::proofs::AboveSteps::put_steps))]
 fn put(set: &mut ScopeSet, scope: Scope) -> Result<(), AllocError>
@@ -90,22 +73,19 @@ fn put(set: &mut ScopeSet, scope: Scope) -> Result<(), AllocError>
     set.insert(scope)
 }
 
-/// Puts the methods of `Object` with a name to others.
-#[tactic(auto, using(crate::proofs::AboveSteps::object_steps))]
-fn add_object_methods(l: &Layout, name: NameId, methods: &mut ScopeSet) -> Result<(), AllocError>
-    ensures { OnOk result (methods.new ≡ fold (put scope_cmp) methods.old (object_methods l.now name)) }
+/// Puts some methods to others.
+fn put_all(methods: &mut ScopeSet, more: &[Scope]) -> Result<(), AllocError>
+    ensures { OnOk result (methods.new ≡ fold (put scope_cmp) methods.old more.now) }
 {
-    let own = l.members(l.object());
-    for member in own {
-        if is_method_named(l, name, *member) {
-            put(methods, *member)?;
-        }
+    for method in more {
+        put(methods, *method)?;
     }
     Ok(())
 }
 
 /// What a method of a type is declared over: the methods above the type, and for an interface those of `Object` too (JLS 9.2).
 fn with_objects(
+    alloc: Global,
     l: &Layout,
     ty: Scope,
     name: NameId,
@@ -115,7 +95,8 @@ fn with_objects(
 {
     let mut methods = above;
     if l.is_interface(ty) {
-        add_object_methods(l, name, &mut methods)?;
+        let own = object_methods(alloc, l, name)?;
+        put_all(&mut methods, own.as_slice())?;
     }
     Ok(methods)
 }
@@ -157,7 +138,7 @@ fn read_against(
     match above {
         Ends::TooMany => named_diag(alloc, l, names, ty, 41, type_name, type_name.id),
         Ends::Scopes(above) => {
-            let others = with_objects(l, ty, name.id, above)?;
+            let others = with_objects(alloc, l, ty, name.id, above)?;
             let codes = read_each_overriding(alloc, l, o, method, others.as_slice())?;
             code_diags(alloc, l, names, ty, name, name.id, codes.as_slice())
         }

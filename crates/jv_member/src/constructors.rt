@@ -3,21 +3,18 @@
 ghost use Rattle.std.specs.Prelude.{◌≡◌, ◌++◌, Some, not, map, OnOk, MatchResult};
 ghost use Rattle.sg_reading.specs.Stop.{Reads};
 ghost use Rattle.sg_reading.specs.declared.stop.Stop.TheVariants.{OutOfMemory};
+ghost use Rattle.jv_diag.specs.Plain.{fault_if};
 ghost use Rattle.jv_diag.specs.Text.{takes};
 ghost use Rattle.jv_tree.specs.TypeTree.{ids_of};
 ghost use Rattle.jv_names.specs.Replies.{reply_to};
-ghost use Rattle.jv_member.specs.Declaration.{fault_if};
 ghost use Rattle.jv_member.specs.MemberDecls.{own_of};
-ghost use Rattle.jv_member.specs.Constructors.{titled_diag, takes_some, can_call, has_enclosing, call_diags, call_of, calls_at, call_at, ctor_rule};
+ghost use Rattle.jv_member.specs.Constructors.{titled_diag, takes_some, can_call, call_diags, only_class, call_of, calls_at, call_at, ctor_rule};
 
 use crate::member_decl::MemberDecl;
-use crate::read::{read_ctor_of, read_signature_of};
-use crate::signature_types::ReadSignature;
-use crate::superclass::{instance_bodies, read_superclass};
 use jv_diag::DiagList;
 use jv_instance::JavaPred;
 use jv_layout::Layout;
-use jv_names::{Oracle, Spot, read_accessible, some_has_super};
+use jv_names::{Oracle, ReadSignature, Spot, instance_bodies, read_accessible, read_ctor_of, read_has_enclosing, read_signature_of, read_superclass};
 use jv_tree::{Name, Names};
 use sg_base::Scope;
 use sg_query::Query;
@@ -101,30 +98,6 @@ fn read_can_call(
     }
 }
 
-/// Whether a class has the enclosing instance that its superclass needs, which stands in this type.
-#[tactic(auto, using(crate::proofs::CtorSteps::ctor_steps))]
-fn read_has_enclosing(
-    alloc: Global,
-    l: &Layout,
-    o: &Oracle,
-    ty: Scope,
-    class: Scope,
-    owner: Option<Scope>,
-) -> Result<bool, Stop<Query<JavaPred>>>
-    ensures { Reads (reply_to o.now) (has_enclosing l.now ty class owner) result }
-{
-    match owner {
-        None => Ok(true),
-        Some(outer) => {
-            if l.is_static(class) {
-                return Ok(true);
-            }
-            let bodies = instance_bodies(alloc, l, ty)?;
-            some_has_super(l, o, bodies.as_slice(), outer)
-        }
-    }
-}
-
 /// The diagnostics of the call of the superclass's constructor without arguments.
 #[tactic(auto, using(crate::proofs::CtorSteps::ctor_steps), unfolding(crate::specs::Constructors::call_diags))]
 fn read_call_diags(
@@ -140,8 +113,16 @@ fn read_call_diags(
 {
     let ctor = read_ctor_of(l, o, class)?;
     let called = read_can_call(alloc, l, o, ty, ctor)?;
-    let enclosed = read_has_enclosing(alloc, l, o, ty, class, l.owner(class))?;
+    let bodies = instance_bodies(alloc, l, ty)?;
+    let enclosed = read_has_enclosing(l, o, bodies.as_slice(), class)?;
     call_faults(alloc, l, names, ty, at, class, called, enclosed)
+}
+
+/// The superclass where it is a class.
+fn only_class(l: &Layout, class: Scope) -> Option<Scope>
+    ensures { result ≡ only_class l.now class }
+{
+    if l.is_interface(class) { None } else { Some(class) }
 }
 
 /// The same for a superclass, where there is one.
@@ -198,7 +179,7 @@ fn read_call_at(
                 return Ok(DiagList::empty(alloc));
             }
             let class = read_superclass(alloc, l, o, ty, extends)?;
-            read_call_of(alloc, l, names, o, ty, at, class)
+            read_call_of(alloc, l, names, o, ty, at, only_class(l, class))
         }
     }
 }

@@ -1,9 +1,8 @@
 //! What is wrong with the declaration of a member itself.
 
 ghost use Rattle.std.specs.Prelude.{◌≡◌, [], ◌∷◌, ◌++◌, IfOk, OnOk, Some};
-ghost use Rattle.jv_diag.specs.Plain.{diagnostic};
+ghost use Rattle.jv_diag.specs.Plain.{diagnostic, fault_if};
 ghost use Rattle.jv_diag.specs.Text.{takes};
-ghost use Rattle.jv_layout.specs.Folder.{is_written};
 ghost use Rattle.jv_layout.specs.Duplicates.{is_duplicate};
 ghost use Rattle.jv_layout.specs.Readers.{file_of};
 ghost use Rattle.jv_tree.specs.DeclTree.{method_tree, ctor_tree};
@@ -11,64 +10,18 @@ ghost use Rattle.jv_tree.specs.StmtTree.{var_tree};
 ghost use Rattle.jv_tree.specs.TypeTree.{base_tree, type_tree};
 ghost use Rattle.jv_member.specs.Own.{own_field, own_method, own_ctor};
 ghost use Rattle.jv_member.specs.MemberDecls.{own_of};
-ghost use Rattle.jv_member.specs.Declaration.{fault_if, at_name, has_repeat, has_two_accesses, has_other, of_fields, of_methods, of_ctors, are_bad_words, is_string_text, is_plain_base, is_constant, has_bad_field_words, has_bad_method_words, has_wrong_body, member_diags};
+ghost use Rattle.jv_member.specs.Declaration.{at_name, of_fields, of_methods, of_ctors, are_bad_words, is_string_text, is_plain_base, is_constant, has_bad_field_words, has_bad_method_words, has_wrong_body, member_diags};
 
 use crate::member_decl::MemberDecl;
 use jv_diag::DiagList;
+use jv_layout::words::{
+    ABSTRACT, FINAL, PRIVATE, PROTECTED, PUBLIC, STATIC, has_other, has_repeat, has_two_accesses,
+    is_written,
+};
 use jv_layout::{Declarations, Layout, text_of};
 use jv_tree::{Base, Ctor, Ident, Method, Mods, NameId, Names, TypeRef, Var};
 use sg_base::Scope;
 use std::alloc::{AllocError, Global};
-
-// The numbers of the keywords that are modifiers of members.
-const ABSTRACT: u8 = 0;
-
-const FINAL: u8 = 17;
-
-const PRIVATE: u8 = 32;
-
-const PROTECTED: u8 = 33;
-
-const PUBLIC: u8 = 34;
-
-const STATIC: u8 = 37;
-
-/// Whether a modifier is written.
-fn is_written(word: u8, words: &[u8]) -> bool
-    ensures { result ≡ is_written word words.now }
-{
-    words.contains(&word)
-}
-
-/// Whether a modifier stands twice. A member has at most as many different ones as there are modifiers.
-fn has_repeat(words: &[u8]) -> bool
-    ensures { result ≡ has_repeat words.now }
-{
-    let mut rest = words;
-    while let [word, more @ ..] = rest {
-        if is_written(*word, more) {
-            return true;
-        }
-        rest = more;
-    }
-    false
-}
-
-/// Whether two of public, protected and private stand.
-fn has_two_accesses(words: &[u8]) -> bool
-    ensures { result ≡ has_two_accesses words.now }
-{
-    is_written(PUBLIC, words) && is_written(PROTECTED, words)
-        || (is_written(PUBLIC, words) && is_written(PRIVATE, words)
-            || is_written(PROTECTED, words) && is_written(PRIVATE, words))
-}
-
-/// Whether a modifier stands that is none of those which may.
-fn has_other(allowed: &[u8], words: &[u8]) -> bool
-    ensures { result ≡ has_other allowed.now words.now }
-{
-    words.iter().any(|word| !is_written(*word, allowed))
-}
 
 /// Whether modifiers cannot stand at any member where these may.
 fn are_bad_words(allowed: &[u8], words: &[u8]) -> bool

@@ -6,8 +6,8 @@ ghost use Rattle.jv_layout.specs.Readers.{is_abstract_of};
 ghost use Rattle.sg_reading.specs.Reading.{each};
 ghost use Rattle.sg_reading.specs.Stop.{Reads};
 ghost use Rattle.sg_reading.specs.declared.stop.Stop.TheVariants.{OutOfMemory};
+ghost use Rattle.jv_diag.specs.Plain.{fault_if};
 ghost use Rattle.jv_names.specs.Replies.{reply_to};
-ghost use Rattle.jv_member.specs.Declaration.{fault_if};
 ghost use Rattle.jv_member.specs.Overriding.{named_diag, code_diags, is_unimplemented, group_rule, all_groups, inherited_rule};
 
 use crate::above::{code_diags, named_diag};

@@ -5,8 +5,7 @@
 //! says which members a declaration has, `specs/Signatures.antt` what their signatures are, `specs/Declaration.antt` what is wrong
 //! with a declaration itself. What is wrong with the members of a type together is a rule too, `specs/Members.antt`: of
 //! `specs/Overriding.antt` which methods stand over which others and where methods meet, of `specs/Constructors.antt` which
-//! constructor of the superclass is called; by what `specs/Read.antt` reads of answers. No unit is known here: what is read
-//! stands on replies alone.
+//! constructor of the superclass is called. No unit is known here: what is read stands on replies alone.
 #![tactic(auto)]
 
 mod above;
@@ -24,11 +23,7 @@ pub mod member_laws;
 mod members;
 mod pairs;
 mod placed;
-mod read;
-mod results;
 mod signature;
-mod signature_types;
-mod superclass;
 #[cfg(test)]
 mod tests;
 mod whole_methods;

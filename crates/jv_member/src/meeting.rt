@@ -5,20 +5,18 @@ ghost use Rattle.std.specs.List.{filter};
 ghost use Rattle.sg_reading.specs.Reading.{each};
 ghost use Rattle.sg_reading.specs.Stop.{Reads};
 ghost use Rattle.jv_names.specs.Replies.{reply_to};
-ghost use Rattle.jv_member.specs.Read.{result_fits};
+ghost use Rattle.jv_names.specs.Read.{result_fits};
 ghost use Rattle.jv_member.specs.Overriding.{is_owner, declares_one, first_concrete, meets, is_other, concrete_codes, fits_each, some_fits, abstract_codes, met_codes, meeting_codes, meeting};
 
 use crate::clash::{Clash, ClashKind};
 use crate::codes::Codes;
 use crate::pairs::read_meeting_code;
-use crate::results::read_result_fits;
-use crate::signature_types::ReadSignature;
 use crate::whole_methods::{
     WholeMethod, params_differ, read_signatures, signature_among, whole_methods,
 };
 use jv_instance::JavaPred;
 use jv_layout::Layout;
-use jv_names::Oracle;
+use jv_names::{Oracle, ReadSignature, read_result_fits};
 use sg_base::Scope;
 use sg_query::Query;
 use sg_reading::Stop;

@@ -6,12 +6,9 @@ ghost use Rattle.jv_names.specs.Replies.{reply_to};
 ghost use Rattle.jv_member.specs.Overriding.{access_rank, is_weaker, static_differs, weaker_or_other, overriding_code, meeting_code, on_whole, overriding};
 
 use crate::clash::{Clash, ClashKind};
-use crate::read::read_signature_of;
-use crate::results::read_result_fits;
-use crate::signature_types::ReadSignature;
 use jv_instance::{Access, JavaPred};
 use jv_layout::Layout;
-use jv_names::Oracle;
+use jv_names::{Oracle, ReadSignature, read_result_fits, read_signature_of};
 use sg_base::Scope;
 use sg_query::Query;
 use sg_reading::Stop;

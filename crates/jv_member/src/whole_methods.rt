@@ -5,14 +5,12 @@ ghost use Rattle.sg_reading.specs.Reading.{each};
 ghost use Rattle.sg_reading.specs.Stop.{Reads};
 ghost use Rattle.sg_reading.specs.declared.stop.Stop.TheVariants.{OutOfMemory};
 ghost use Rattle.jv_names.specs.Replies.{reply_to};
-ghost use Rattle.jv_member.specs.Read.{signature_of};
+ghost use Rattle.jv_names.specs.Read.{signature_of};
 ghost use Rattle.jv_member.specs.Overriding.{whole_methods, params_differ, signature_among};
 
-use crate::read::read_signature_of;
-use crate::signature_types::ReadSignature;
 use jv_instance::JavaPred;
 use jv_layout::Layout;
-use jv_names::Oracle;
+use jv_names::{Oracle, ReadSignature, read_signature_of};
 use sg_base::Scope;
 use sg_query::Query;
 use sg_reading::Stop;
@@ -27,7 +25,7 @@ pub struct ReadSignatures {
 
 impl Model for ReadSignatures {
     ghost use Rattle.std.specs.Prelude.{List, Option};
-    ghost use Rattle.jv_member.specs.Read.{SignatureOf};
+    ghost use Rattle.jv_names.specs.Read.{SignatureOf};
 
     ghost Value = { List (Option SignatureOf) };
 
@@ -68,7 +66,7 @@ pub struct WholeMethod {
 
 impl Model for WholeMethod {
     ghost use Rattle.sg_base.specs.declared.scope.Scope.{Scope};
-    ghost use Rattle.jv_member.specs.Read.{SignatureOf};
+    ghost use Rattle.jv_names.specs.Read.{SignatureOf};
 
     ghost Value = { Scope × SignatureOf };
 
@@ -84,7 +82,7 @@ pub struct WholeMethods {
 impl Model for WholeMethods {
     ghost use Rattle.std.specs.Prelude.{List};
     ghost use Rattle.sg_base.specs.declared.scope.Scope.{Scope};
-    ghost use Rattle.jv_member.specs.Read.{SignatureOf};
+    ghost use Rattle.jv_names.specs.Read.{SignatureOf};
 
     ghost Value = { List (Scope × SignatureOf) };
 

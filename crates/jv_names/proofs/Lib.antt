@@ -10,3 +10,8 @@ pub mod Table
 pub mod Walking
 pub mod Bounds
 pub mod WrittenTypes
+pub mod Listed
+pub mod ReadSteps
+pub mod ResultSteps
+pub mod SuperclassSteps
+pub mod InstanceSteps

@@ -12,3 +12,6 @@ pub mod Reference
 pub mod Written
 pub mod Bounds
 pub mod WrittenTypes
+pub mod Read
+pub mod Superclass
+pub mod Instances

@@ -81,7 +81,7 @@ fn passes(l: &Layout, counts: Counts, path: &Path) -> bool
 }
 
 /// Whether a found path counts.
-fn is_counted(l: &Layout, counts: Counts, found: &Found<JavaDatum>) -> bool
+pub fn is_counted(l: &Layout, counts: Counts, found: &Found<JavaDatum>) -> bool
     ensures { result ≡ is_counted l.now counts found.now }
 {
     l.fits(&found.path)

@@ -5,6 +5,9 @@
 //! `specs/Kinds.antt` says what each kind of query follows, `specs/Ends.antt` what counts in an answer, `specs/Names.antt`
 //! what the name of a type and of an import means, `specs/WrittenTypes.antt` what a type that is written means,
 //! `specs/Members.antt` which field and methods a name means in a class, and `specs/Access.antt` what is accessible where.
+//! What members and expressions read beside names stands here too: `specs/Read.antt` has the signatures of members, the
+//! supertypes of classes and which result fits another one, `specs/Superclass.antt` the class that a class extends, and
+//! `specs/Instances.antt` enclosing instances.
 #![tactic(auto)]
 
 mod access;
@@ -14,6 +17,7 @@ mod counts;
 mod ends;
 mod imports;
 mod inheriting;
+mod instances;
 mod kind_table;
 pub mod kinds;
 pub mod laws;
@@ -27,14 +31,19 @@ mod part;
 mod parts;
 mod qualifier;
 mod queries;
+mod read;
 mod reference;
 mod resolved;
+mod results;
 mod scope_list;
+mod signature_types;
 #[cfg(test)]
 mod small_folder;
 #[cfg(test)]
 mod small_replies;
 mod spot;
+mod superclass;
+mod supers;
 #[cfg(test)]
 mod tests;
 mod type_names;
@@ -51,16 +60,22 @@ pub use counts::Counts;
 pub use ends::Ends;
 pub use imports::{read_import, resolve_import};
 pub use inheriting::inherited;
+pub use instances::{instance_bodies, read_has_enclosing};
 pub use kind_table::java_kinds;
 pub use meaning::Meaning;
-pub use members::{find_ends, find_field, find_methods, read_field, read_methods};
+pub use members::{find_ends, find_field, find_methods, object_methods, read_field, read_methods};
 pub use oracle::Oracle;
 pub use qualifier::Qualifier;
 pub use queries::{for_any, for_name};
+pub use read::{read_ctor_of, read_signature_of};
 pub use reference::{Reference, add_reference, read_reference};
 pub use resolved::Resolved;
+pub use results::read_result_fits;
 pub use scope_list::ScopeList;
+pub use signature_types::ReadSignature;
 pub use spot::Spot;
+pub use superclass::read_superclass;
+pub use supers::read_supers;
 pub use type_names::{read_type, resolve_type};
 pub use writing::{start_of, written};
 pub use written_type::{WrittenType, read_written_type, resolve_written_type};

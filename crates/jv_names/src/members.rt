@@ -2,7 +2,7 @@
 
 ghost use Rattle.std.specs.Prelude.{◌≡◌, IfOk};
 ghost use Rattle.sg_reading.specs.Stop.{Reads, IsKnown};
-ghost use Rattle.jv_names.specs.Members.{find_ends, field, methods};
+ghost use Rattle.jv_names.specs.Members.{find_ends, field, methods, is_method_named, object_methods};
 ghost use Rattle.jv_names.specs.Replies.{reply_to};
 
 use crate::answers::answer_ends;
@@ -12,7 +12,8 @@ use crate::kinds;
 use crate::meaning::Meaning;
 use crate::oracle::Oracle;
 use crate::queries::{ask, for_name, look_up};
-use jv_instance::JavaPred;
+use crate::scope_list::ScopeList;
+use jv_instance::{JavaPred, labels};
 use jv_layout::Layout;
 use jv_tree::NameId;
 use sg_base::Scope;
@@ -94,4 +95,24 @@ pub fn find_methods(
     ensures { IfOk result (IsKnown (reply_to o.now) (methods l.now class name)) }
 {
     Known::from_found(read_methods(alloc, l, o, class, name))
+}
+
+/// Whether a member is a method with this name.
+fn is_method_named(l: &Layout, name: NameId, member: Scope) -> bool
+    ensures { result ≡ is_method_named l.now name member }
+{
+    l.is_member_by(labels::METH, l.place(member)) && l.is_named(name, member)
+}
+
+/// The methods of `Object` with a name, in the order of its members (JLS 9.2). It takes time in the number of those.
+pub fn object_methods(alloc: Global, l: &Layout, name: NameId) -> Result<ScopeList, AllocError>
+    ensures { IfOk result (λ methods. methods ≡ object_methods l.now name) }
+{
+    let mut methods = ScopeList::empty(alloc);
+    for member in l.members(l.object()) {
+        if is_method_named(l, name, *member) {
+            methods.push(*member)?;
+        }
+    }
+    Ok(methods)
 }

@@ -6,7 +6,7 @@ use Rattle.sg_reading.specs.Stop.{Reads}
 use Rattle.sg_reading.proofs.Lists.{each_after}
 use Rattle.jv_instance.specs.declared.pred.JavaPred.{JavaPred}
 use Rattle.jv_names.specs.Replies.{reply_to}
-use Rattle.jv_member.specs.Read.{SignatureOf, signature_of}
+use Rattle.jv_names.specs.Read.{SignatureOf, signature_of}
 use Rattle.jv_member.proofs.whole_methods.read_signatures.Given as goal
 
 -- what the rule comes to for the rest of the methods, after the signatures so far, it comes to for all of them
