@@ -11,6 +11,7 @@ pub mod Walking
 pub mod Bounds
 pub mod WrittenTypes
 pub mod Listed
+pub mod ReadBounds
 pub mod ReadSteps
 pub mod ResultSteps
 pub mod SuperclassSteps

@@ -1,22 +1,25 @@
 -- What rules of names ask and find: queries from places of the layout, and its types and packages.
 use Rattle.std.specs.Prelude.{◌≡◌, ℕ, ◌<◌, List, length, Bool, true, false, IsTrue, All, ◌⊎◌, Option, IfSome}
+use Rattle.std.specs.List.{Contains}
 use Rattle.sg_base.specs.declared.scope.Scope.{Scope}
 use Rattle.sg_query.specs.declared.query.Query.{Query}
 use Rattle.sg_reading.specs.Reading.{AllAsked, AllEnds}
 use Rattle.jv_instance.specs.declared.pred.JavaPred.{JavaPred}
 use Rattle.jv_instance.specs.declared.pred.JavaPred.TheVariants.{Named, Any}
-use Rattle.jv_instance.specs.declared.labels.TheConstants.{FIELD, METH}
+use Rattle.jv_instance.specs.declared.labels.TheConstants.{FIELD, METH, CTOR}
+use Rattle.jv_instance.specs.declared.ty.Ty.{Ty}
 use Rattle.jv_instance.specs.declared.type_base.TypeBase.{TypeBase}
 use Rattle.jv_instance.specs.declared.type_base.TypeBase.TheVariants.{Boolean, Char, Int, Long, Class, Null, Void, Bad}
 use Rattle.jv_layout.specs.declared.place.Place.{Place}
-use Rattle.jv_layout.specs.declared.place.Place.TheVariants.{Outside, Root, Unnamed, Package, File, Ty, Member, Signature}
+use Rattle.jv_layout.specs.declared.place.Place.TheVariants.{Outside, Root, Unnamed, Package, File, Ty as TypePlace, Member, Signature}
 use Rattle.jv_layout.specs.Fits.{is_package, is_type, is_member_by}
 use Rattle.jv_layout.specs.Folder.{LayoutOf}
 use Rattle.jv_layout.specs.Linked.{IsLinked}
 use Rattle.jv_layout.specs.Scopes.{place_of}
+use Rattle.jv_layout.specs.Skeleton.{skeleton_of}
 use Rattle.jv_tree.specs.declared.name.Ident.{Ident}
 use Rattle.jv_tree.specs.declared.names.NameId.{NameId}
-use Rattle.jv_tree.specs.Numbered.{IsNumberedName, IsNumberedType}
+use Rattle.jv_tree.specs.Numbered.{IsNumberedName, AreNumberedNames, IsNumberedType}
 use Rattle.jv_tree.specs.TypeTree.{TypeTree}
 use Rattle.jv_names.specs.declared.context.Context.{Context}
 use Rattle.jv_names.specs.declared.context.Context.TheVariants.{TypeName, SingleImport, OnDemandImport}
@@ -30,11 +33,14 @@ use Rattle.jv_names.specs.declared.resolved.Resolved.{Resolved}
 use Rattle.jv_names.specs.declared.written_type.WrittenType.{WrittenType}
 use Rattle.jv_names.specs.Access.{type_accessible, member_accessible}
 use Rattle.jv_names.specs.Bodies.{header_bodies, member_bodies}
+use Rattle.jv_names.specs.Instances.{instance_bodies, has_enclosing}
 use Rattle.jv_names.specs.Kinds.{kinds}
 use Rattle.jv_names.specs.Members.{field, methods}
 use Rattle.jv_names.specs.Names.{type_name, import_context, import_name}
+use Rattle.jv_names.specs.Read.{SignatureOf, signature_of, supers_of, result_fits, ctor_of}
 use Rattle.jv_names.specs.Reference.{reference}
 use Rattle.jv_names.specs.Replies.{Rule}
+use Rattle.jv_names.specs.Superclass.{superclass}
 use Rattle.jv_names.specs.WrittenTypes.{written_type}
 
 -- ---- queries
@@ -45,7 +51,7 @@ is_start Root = true
 is_start Unnamed = true
 is_start (Package p) = true
 is_start (File f) = true
-is_start (Ty t) = true
+is_start (TypePlace t) = true
 is_start Outside = false
 is_start (Member m) = false
 is_start (Signature m) = false
@@ -62,7 +68,17 @@ pub record IsNameQuery (l : LayoutOf) (count : ℕ) (q : Query JavaPred) : Type 
   pub plain : q.kind ≡ SIG → ⊥
   pub pred : IsNamePred count q.pred
 
+-- a query starts at a scope of the layout, is of a kind of the table, and asks for any name, or for one of so many
+pub record IsLayoutQuery (l : LayoutOf) (count : ℕ) (q : Query JavaPred) : Type 0 where
+  pub start : Contains (skeleton_of l).scopes q.start
+  pub kind : q.kind < length kinds
+  pub pred : IsNamePred count q.pred
+
 -- ---- what is found
+
+-- a scope is one of the layout
+abbrev pub IsListed : LayoutOf → Scope → Type 0
+IsListed l s = Contains (skeleton_of l).scopes s
 
 -- a scope is a type of the layout
 abbrev pub IsTypeScope : LayoutOf → Scope → Type 0
@@ -119,6 +135,14 @@ IsBaseIn l Null = Unit {0}
 IsBaseIn l Void = Unit {0}
 IsBaseIn l Bad = Unit {0}
 
+-- where a type is one of classes or interfaces, those are types of the layout
+abbrev pub IsTyIn : LayoutOf → Ty → Type 0
+IsTyIn l t = IsBaseIn l t.base
+
+-- the result of a signature that is read is such a type, and so are those of its parameters
+abbrev pub IsReadIn : LayoutOf → SignatureOf → Type 0
+IsReadIn l s = IsTyIn l s.result × All (IsTyIn l) s.params
+
 -- a type that is written has such a base
 abbrev pub IsWrittenIn : LayoutOf → WrittenType → Type 0
 IsWrittenIn l w = IsBaseIn l w.ty.base
@@ -128,6 +152,11 @@ IsWrittenIn l w = IsBaseIn l w.ty.base
 -- whatever the answers, a rule asks queries of names alone, and ends with values of this kind
 pub record StaysIn {U : Type 0} (l : LayoutOf) (count : ℕ) (E : U → Type 0) (r : Rule U) : Type 0 where
   pub asks : AllAsked (IsNameQuery l count) r
+  pub ends : AllEnds E r
+
+-- whatever the answers, a rule asks queries of the layout, and ends with values of this kind
+pub record AsksIn {U : Type 0} (l : LayoutOf) (count : ℕ) (E : U → Type 0) (r : Rule U) : Type 0 where
+  pub asks : AllAsked (IsLayoutQuery l count) r
   pub ends : AllEnds E r
 
 -- the names of types
@@ -171,8 +200,40 @@ MemberAccessStaysIn =
     (l : LayoutOf) (count file : ℕ) (bodies : List Scope) (m : Scope) (through : Option Scope) → AreTypes l bodies → IfSome through (IsTypeScope l)
     → StaysIn l count (λ (b : Bool). Unit {0}) (member_accessible l file bodies m through)
 
+-- ---- what is read beside names
+
+-- the signature of a member of the layout
+abbrev pub SignaturesAskIn : Type 0
+SignaturesAskIn = (l : LayoutOf) (count : ℕ) (m : Scope) → IsListed l m → AsksIn l count (λ (o : Option SignatureOf). IfSome o (IsReadIn l)) (signature_of l m)
+
+-- the constructor and the supertypes of a type
+abbrev pub CtorsAskIn : Type 0
+CtorsAskIn = (l : LayoutOf) (count : ℕ) (c : Scope) → IsTypeScope l c → AsksIn l count (λ (o : Option Scope). IfSome o (IsMemberScope l CTOR)) (ctor_of l c)
+
+abbrev pub SupersAskIn : Type 0
+SupersAskIn = (l : LayoutOf) (count : ℕ) (c : Scope) → IsTypeScope l c → AsksIn l count (AreTypes l) (supers_of l c)
+
+-- whether a result fits another one
+abbrev pub ResultsAskIn : Type 0
+ResultsAskIn = (l : LayoutOf) (count : ℕ) (s t : Ty) → IsTyIn l s → AsksIn l count (λ (b : Bool). Unit {0}) (result_fits l s t)
+
+-- the superclass of a type by the names that it extends
+abbrev pub SuperclassesAskIn : Type 0
+SuperclassesAskIn =
+    (l : LayoutOf) (count : ℕ) (c : Scope) (ns : List (List Ident)) → IsLinked l → IsTypeScope l c → AreNumberedNames count ns
+    → AsksIn l count (IsTypeScope l) (superclass l c ns)
+
+-- whether there is an enclosing instance
+abbrev pub InstancesAskIn : Type 0
+InstancesAskIn =
+    (l : LayoutOf) (count : ℕ) (bodies : List Scope) (s : Scope) (o : Option Scope) → AreTypes l bodies → AsksIn l count (λ (b : Bool). Unit {0}) (has_enclosing l bodies s o)
+
 -- ---- bodies
 
 -- the bodies around a type's header are types, and so are those around what stands in its body
 abbrev pub BodiesAreTypes : Type 0
 BodiesAreTypes = (l : LayoutOf) (c : Scope) → IsLinked l → IsTypeScope l c → AreTypes l (header_bodies l c) × AreTypes l (member_bodies l c)
+
+-- and so are those with an instance
+abbrev pub InstanceBodiesAreTypes : Type 0
+InstanceBodiesAreTypes = (l : LayoutOf) (c : Scope) → IsLinked l → IsTypeScope l c → AreTypes l (instance_bodies l c)

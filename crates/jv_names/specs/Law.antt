@@ -12,11 +12,15 @@ use Rattle.jv_layout.specs.Folder.{LayoutOf}
 use Rattle.jv_tree.specs.declared.name.Ident.{Ident}
 use Rattle.jv_tree.specs.declared.names.NameId.{NameId}
 use Rattle.jv_tree.specs.TypeTree.{TypeTree}
+use Rattle.jv_instance.specs.declared.ty.Ty.{Ty}
 use Rattle.jv_names.specs.Access.{type_accessible, member_accessible}
+use Rattle.jv_names.specs.Instances.{has_enclosing}
 use Rattle.jv_names.specs.Kinds.{asked_by}
 use Rattle.jv_names.specs.Members.{field, methods}
 use Rattle.jv_names.specs.Names.{type_name, import_name}
+use Rattle.jv_names.specs.Read.{signature_of, supers_of, result_fits, ctor_of}
 use Rattle.jv_names.specs.Replies.{Rule}
+use Rattle.jv_names.specs.Superclass.{superclass}
 use Rattle.jv_names.specs.WrittenTypes.{written_type}
 
 -- the query has this answer in the graph
@@ -50,3 +54,23 @@ MemberAccessReadsOnlyItsQueries =
 abbrev pub WrittenTypesReadOnlyTheirQueries : Type 0
 WrittenTypesReadOnlyTheirQueries =
     (l : LayoutOf) (names : List (List ℕ)) (file : ℕ) (bodies : List Scope) (t : TypeTree) → ReadsOnlyItsQueries (written_type l names file bodies t)
+
+-- ---- what is read beside names
+
+abbrev pub ReadSignaturesReadOnlyTheirQueries : Type 0
+ReadSignaturesReadOnlyTheirQueries = (l : LayoutOf) (m : Scope) → ReadsOnlyItsQueries (signature_of l m)
+
+abbrev pub CtorsReadOnlyTheirQueries : Type 0
+CtorsReadOnlyTheirQueries = (l : LayoutOf) (c : Scope) → ReadsOnlyItsQueries (ctor_of l c)
+
+abbrev pub SupersReadOnlyTheirQueries : Type 0
+SupersReadOnlyTheirQueries = (l : LayoutOf) (c : Scope) → ReadsOnlyItsQueries (supers_of l c)
+
+abbrev pub ResultsReadOnlyTheirQueries : Type 0
+ResultsReadOnlyTheirQueries = (l : LayoutOf) (s t : Ty) → ReadsOnlyItsQueries (result_fits l s t)
+
+abbrev pub SuperclassesReadOnlyTheirQueries : Type 0
+SuperclassesReadOnlyTheirQueries = (l : LayoutOf) (c : Scope) (ns : List (List Ident)) → ReadsOnlyItsQueries (superclass l c ns)
+
+abbrev pub InstancesReadOnlyTheirQueries : Type 0
+InstancesReadOnlyTheirQueries = (l : LayoutOf) (bodies : List Scope) (s : Scope) (o : Option Scope) → ReadsOnlyItsQueries (has_enclosing l bodies s o)

@@ -1,7 +1,7 @@
 //! Laws of the rules of names, each the contract of a function that does nothing.
 
-ghost use Rattle.jv_names.specs.Bounds.{TypeNamesStayIn, ImportsStayIn, TypeAccessStaysIn, ReferencesStayIn, WrittenTypesStayIn, FieldsStayIn, MethodsStayIn, MemberAccessStaysIn, BodiesAreTypes};
-ghost use Rattle.jv_names.specs.Law.{TypeNamesReadOnlyTheirQueries, ImportsReadOnlyTheirQueries, TypeAccessReadsOnlyItsQueries, FieldsReadOnlyTheirQueries, MethodsReadOnlyTheirQueries, MemberAccessReadsOnlyItsQueries, WrittenTypesReadOnlyTheirQueries};
+ghost use Rattle.jv_names.specs.Bounds.{TypeNamesStayIn, ImportsStayIn, TypeAccessStaysIn, ReferencesStayIn, WrittenTypesStayIn, FieldsStayIn, MethodsStayIn, MemberAccessStaysIn, SignaturesAskIn, CtorsAskIn, SupersAskIn, ResultsAskIn, SuperclassesAskIn, InstancesAskIn, BodiesAreTypes, InstanceBodiesAreTypes};
+ghost use Rattle.jv_names.specs.Law.{TypeNamesReadOnlyTheirQueries, ImportsReadOnlyTheirQueries, TypeAccessReadsOnlyItsQueries, FieldsReadOnlyTheirQueries, MethodsReadOnlyTheirQueries, MemberAccessReadsOnlyItsQueries, WrittenTypesReadOnlyTheirQueries, ReadSignaturesReadOnlyTheirQueries, CtorsReadOnlyTheirQueries, SupersReadOnlyTheirQueries, ResultsReadOnlyTheirQueries, SuperclassesReadOnlyTheirQueries, InstancesReadOnlyTheirQueries};
 
 /// The meaning of the name of a type looks at a graph only by the queries that it asks.
 pub fn resolve_type_reads_only_its_queries()
@@ -57,8 +57,32 @@ pub fn member_rules_ask_in_the_layout()
     ensures access { MemberAccessStaysIn }
 {}
 
+/// What is read beside names looks at a graph only by the queries that it asks: signatures, constructors, supertypes, whether a
+/// result fits another one, superclasses and enclosing instances.
+pub fn readings_read_only_their_queries()
+    ensures signatures { ReadSignaturesReadOnlyTheirQueries }
+    ensures ctors { CtorsReadOnlyTheirQueries }
+    ensures supers { SupersReadOnlyTheirQueries }
+    ensures results { ResultsReadOnlyTheirQueries }
+    ensures superclasses { SuperclassesReadOnlyTheirQueries }
+    ensures instances { InstancesReadOnlyTheirQueries }
+{}
+
+/// Whatever the answers, even those that name scopes outside the layout, what is read beside names asks queries of the layout alone:
+/// each starts at one of its scopes, is of one of the kinds, and asks for any name, or for one that is numbered. The types of a
+/// signature have types of the layout as their bases, or no class; a constructor, supertypes and a superclass are the layout's.
+pub fn readings_ask_in_the_layout()
+    ensures signatures { SignaturesAskIn }
+    ensures ctors { CtorsAskIn }
+    ensures supers { SupersAskIn }
+    ensures results { ResultsAskIn }
+    ensures superclasses { SuperclassesAskIn }
+    ensures instances { InstancesAskIn }
+{}
+
 /// In a layout whose rows name one another, the bodies around the header of a type are types, and so are those around what
-/// stands in its body.
+/// stands in its body, and those of which it has an instance.
 pub fn bodies_are_types()
-    ensures { BodiesAreTypes }
+    ensures bodies { BodiesAreTypes }
+    ensures instances { InstanceBodiesAreTypes }
 {}
