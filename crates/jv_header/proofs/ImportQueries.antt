@@ -1,5 +1,5 @@
 -- Imports ask for types and packages that a package or a type declares itself, and for nothing else.
-use Rattle.std.proofs.Common.{◌≡◌, ℕ, ◌⊎◌, Bool, true, false, cond, List, [], ◌∷◌, ◌++◌, Option, Some, None, inl, inr, refl}
+use Rattle.std.proofs.Common.{ℕ, Bool, true, false, cond, List, [], ◌∷◌, ◌++◌, Option, Some, None, inl, inr, refl}
 use Rattle.sg_base.specs.declared.scope.Scope.{Scope}
 use Rattle.sg_query.specs.declared.query.Query.{Query}
 use Rattle.sg_reading.specs.Reading.{done, and_then, AllAsked, each}
@@ -11,20 +11,19 @@ use Rattle.jv_layout.specs.Folder.{LayoutOf}
 use Rattle.jv_layout.specs.Readers.{access_of, owner_scope}
 use Rattle.jv_tree.specs.declared.name.Ident.{Ident}
 use Rattle.jv_tree.specs.declared.names.NameId.{NameId}
-use Rattle.jv_tree.specs.DeclTree.{ImportTree, UnitTree}
+use Rattle.jv_tree.specs.DeclTree.{ImportTree}
 use Rattle.jv_names.specs.declared.counts.Counts.{Counts}
 use Rattle.jv_names.specs.declared.counts.Counts.TheVariants.{OwnPackages, OwnTypes}
 use Rattle.jv_names.specs.declared.meaning.Meaning.{Meaning}
 use Rattle.jv_names.specs.declared.meaning.Meaning.TheVariants.{One, Nothing, Ambiguous, TooMany}
-use Rattle.jv_names.specs.declared.context.Context.{Context}
 use Rattle.jv_names.specs.declared.qualifier.Qualifier.{Qualifier}
 use Rattle.jv_names.specs.declared.qualifier.Qualifier.TheVariants.{InPackage, InType}
 use Rattle.jv_names.specs.declared.resolved.Resolved.{Resolved}
 use Rattle.jv_names.specs.Access.{is_same_package, has_super, some_body, member_type_by, type_accessible_by, type_accessible}
-use Rattle.jv_names.specs.Names.{look_up, ended, on_one, type_part, package_type, subpackage, further_parts, from_root, import_context, import_name}
+use Rattle.jv_names.specs.Names.{look_up, ended, on_one, type_part, package_type, subpackage, further_parts, import_context, import_name}
 use Rattle.jv_names.specs.Reference.{refused}
 use Rattle.jv_names.specs.Replies.{Rule}
-use Rattle.jv_header.specs.Imports.{import_reference, imports_from, imports_rule, no_imports}
+use Rattle.jv_header.specs.Imports.{import_reference, imports_from, no_imports}
 use Rattle.jv_header.specs.Law.{AsksForOwn, ImportsAskForOwn}
 
 look_up_asks : (l : LayoutOf) (c : Counts) (q : Query JavaPred) → AsksForOwn q → AllAsked AsksForOwn (look_up l c q)

@@ -1,5 +1,5 @@
 -- Headers as rules over the graph of a layout: they ask from its scopes, give scopes of it, and look at no signature.
-use Rattle.std.proofs.Common.{◌≡◌, ℕ, zero, suc, ◌+◌, ◌<◌, ◌^◌, ◌==◌, ◌&&◌, ◌||◌, ◌↔◌, Bool, true, false, cond, IsTrue, List, [], ◌∷◌, map, length, inl, inr, refl, sym, subst, arith}
+use Rattle.std.proofs.Common.{◌≡◌, ℕ, zero, suc, ◌+◌, ◌<◌, ◌^◌, ◌==◌, ◌&&◌, ◌||◌, ◌↔◌, Bool, true, false, cond, IsTrue, List, [], ◌∷◌, length, inl, inr, refl, sym, subst, arith}
 use Rattle.std.specs.List.{Contains, concat}
 use Rattle.std.proofs.lemmas.Bool.{eqb-true, eq-eqb, or_left, or_right}
 use Rattle.std.proofs.lemmas.List.Elements.{All-nil, All-cons, All-weaker, All-contains, Contains-append_cases}
@@ -13,7 +13,7 @@ use Rattle.sg_query.specs.declared.query.Query.{Query}
 use Rattle.sg_reading.proofs.Asking.{AllAsked-more, AllEnds-more}
 use Rattle.sg_state.specs.Opening.{IsSoundOpening, opened_of}
 use Rattle.sg_state.proofs.SoundOpenings.{scope_in, edge_in, sound_openings_open}
-use Rattle.sg_strata.specs.Program.{Program, IsProgram, IsPlain, IsQuiet}
+use Rattle.sg_strata.specs.Program.{IsProgram, IsPlain, IsQuiet}
 use Rattle.jv_instance.specs.declared.datum.JavaDatum.{JavaDatum}
 use Rattle.jv_instance.specs.declared.labels.TheConstants.{PKG, TYPE, SELF, SIMP, PKGOF, ODI, EXT, FIELD, METH, CTOR, SIG}
 use Rattle.jv_instance.specs.declared.pred.JavaPred.{JavaPred}
@@ -25,7 +25,7 @@ use Rattle.jv_layout.specs.Laws.{IsScopeOf}
 use Rattle.jv_layout.specs.Linked.{IsLinked}
 use Rattle.jv_layout.specs.Readers.{types_of}
 use Rattle.jv_layout.specs.Scopes.{scope_at, first_file, first_type, scope_count, place_of, type_scope, signature_of_member}
-use Rattle.jv_layout.specs.Skeleton.{below, skeleton_of}
+use Rattle.jv_layout.specs.Skeleton.{skeleton_of}
 use Rattle.jv_layout.proofs.SoundEdges.{skeletons_fit}
 use Rattle.jv_layout.proofs.SoundLists.{from_image}
 use Rattle.jv_layout.proofs.SoundPlaces.{listed, placed, scopes_have_places}

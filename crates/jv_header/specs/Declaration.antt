@@ -1,6 +1,6 @@
 -- What is wrong with the declaration of a type itself (JLS 7.1, 7.6, 8.1, 8.1.1, 8.1.3, 8.5, 9.1.1, 9.5).
-use Rattle.std.specs.Prelude.{ℕ, List, [], ◌∷◌, ◌++◌, Bool, true, false, not, cond, ◌==◌, ◌&&◌, ◌||◌, Option, None, Some}
-use Rattle.std.specs.List.{list_any, list_all}
+use Rattle.std.specs.Prelude.{ℕ, List, [], ◌∷◌, ◌++◌, Bool, false, not, cond, ◌&&◌, ◌||◌, Option, None, Some}
+use Rattle.std.specs.List.{list_any}
 use Rattle.sg_base.specs.declared.scope.Scope.{Scope}
 use Rattle.jv_diag.specs.Plain.{DiagOf, diagnostic, fault_if}
 use Rattle.jv_layout.specs.Duplicates.{is_named, is_duplicate, has_subpackage}

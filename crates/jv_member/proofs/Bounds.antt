@@ -14,12 +14,12 @@ use Rattle.jv_tree.specs.StmtTree.{VarTree}
 use Rattle.jv_tree.specs.TypeTree.{TypeTree}
 use Rattle.jv_names.specs.declared.written_type.WrittenType.{WrittenType}
 use Rattle.jv_names.specs.Bodies.{member_bodies}
-use Rattle.jv_names.specs.Bounds.{IsTypeScope, IsWrittenIn, StaysIn}
+use Rattle.jv_names.specs.Bounds.{IsTypeScope, IsTyIn, IsWrittenIn, StaysIn}
 use Rattle.jv_names.specs.Replies.{Rule}
 use Rattle.jv_names.specs.WrittenTypes.{written_type}
 use Rattle.jv_names.proofs.Bounds.{bodies_are_types, file_is_one, then_stays, done_stays, written_type_stays}
 use Rattle.jv_member.specs.declared.signature.Signature.{Signature}
-use Rattle.jv_member.specs.Bounds.{IsNumberedOwn, IsTyIn, IsSignatureIn, SignaturesStayIn, OwnMembersAreNumbered}
+use Rattle.jv_member.specs.Bounds.{IsNumberedOwn, IsSignatureIn, SignaturesStayIn, OwnMembersAreNumbered}
 use Rattle.jv_member.specs.Own.{OwnMember, own_field, own_method, own_ctor, default_ctor, body_own}
 use Rattle.jv_member.specs.Signatures.{types_of, field_by, method_by, ctor_by, param_types, signature_rule}
 use Rattle.jv_member.proofs.Steps.{param_type}

@@ -1,21 +1,15 @@
 -- What the rules of members ask and give: queries from places of the layout, and its types.
-use Rattle.std.specs.Prelude.{ℕ, ◌<◌, List, length, All}
-use Rattle.std.specs.List.{Contains}
+use Rattle.std.specs.Prelude.{ℕ, List, All}
 use Rattle.sg_base.specs.declared.scope.Scope.{Scope}
-use Rattle.sg_query.specs.declared.query.Query.{Query}
 use Rattle.sg_reading.specs.Reading.{AllAsked}
 use Rattle.jv_instance.specs.declared.datum.JavaDatum.{JavaDatum}
 use Rattle.jv_instance.specs.declared.datum.JavaDatum.TheVariants.{Package, TypeName, Member, Signature as SignatureDatum}
-use Rattle.jv_instance.specs.declared.pred.JavaPred.{JavaPred}
-use Rattle.jv_instance.specs.declared.ty.Ty.{Ty}
 use Rattle.jv_layout.specs.Folder.{LayoutOf}
 use Rattle.jv_layout.specs.Linked.{IsLinked}
-use Rattle.jv_layout.specs.Skeleton.{skeleton_of}
 use Rattle.jv_tree.specs.declared.names.NameId.{NameId}
 use Rattle.jv_tree.specs.DeclTree.{TypeDeclTree}
 use Rattle.jv_tree.specs.Numbered.{IsNumberedIdent, IsNumberedType, IsNumberedVar, IsNumberedMethod, IsNumberedCtor, IsNumberedDecl}
-use Rattle.jv_names.specs.Bounds.{IsNamePred, IsTypeScope, IsBaseIn, StaysIn}
-use Rattle.jv_names.specs.Kinds.{kinds}
+use Rattle.jv_names.specs.Bounds.{IsTypeScope, IsTyIn, IsLayoutQuery, StaysIn}
 use Rattle.jv_member.specs.declared.signature.Signature.{Signature}
 use Rattle.jv_member.specs.Members.{members_rule}
 use Rattle.jv_member.specs.Own.{OwnMember, own_field, own_method, own_ctor, default_ctor, own_members}
@@ -27,10 +21,6 @@ IsNumberedOwn n (own_field ms t v) = IsNumberedType n t × IsNumberedVar n v
 IsNumberedOwn n (own_method m) = IsNumberedMethod n m
 IsNumberedOwn n (own_ctor c) = IsNumberedCtor n c
 IsNumberedOwn n (default_ctor name) = IsNumberedIdent n name
-
--- where a type is one of classes or interfaces, those are types of the layout
-abbrev pub IsTyIn : LayoutOf → Ty → Type 0
-IsTyIn l t = IsBaseIn l t.base
 
 -- a datum is a signature of such types
 abbrev pub IsSignatureIn : LayoutOf → JavaDatum → Type 0
@@ -48,12 +38,6 @@ SignaturesStayIn =
 -- the members of a numbered declaration are numbered
 abbrev pub OwnMembersAreNumbered : Type 0
 OwnMembersAreNumbered = (count : ℕ) (d : TypeDeclTree) → IsNumberedDecl count d → All (IsNumberedOwn count) (own_members d)
-
--- a query starts at a scope of the layout, is of a kind of the table, and asks for any name, or for one of so many
-pub record IsLayoutQuery (l : LayoutOf) (count : ℕ) (q : Query JavaPred) : Type 0 where
-  pub start : Contains (skeleton_of l).scopes q.start
-  pub kind : q.kind < length kinds
-  pub pred : IsNamePred count q.pred
 
 -- all that is checked of a type's members asks such queries, whatever the answers
 abbrev pub MembersAskInLayout : Type 0

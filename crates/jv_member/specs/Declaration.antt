@@ -1,6 +1,6 @@
 -- What is wrong with the declaration of a member itself (JLS 8.3, 8.3.1, 8.4, 8.4.3, 8.4.7, 8.8, 8.8.3, 8.1.3, 9.3, 9.4).
 use Rattle.std.specs.Prelude.{ℕ, ◌==◌, ◌&&◌, ◌||◌, not, Bool, true, false, cond, List, [], ◌∷◌, ◌++◌, is_some}
-use Rattle.std.specs.List.{flat_map, list_any}
+use Rattle.std.specs.List.{flat_map}
 use Rattle.std.specs.Ordering.{is_eq, nat_cmp}
 use Rattle.std.specs.Cmp.Lexicographic.{slice_cmp}
 use Rattle.sg_base.specs.declared.scope.Scope.{Scope}

@@ -14,7 +14,10 @@ use crate::member_decl::MemberDecl;
 use jv_diag::DiagList;
 use jv_instance::JavaPred;
 use jv_layout::Layout;
-use jv_names::{Oracle, ReadSignature, Spot, instance_bodies, read_accessible, read_ctor_of, read_has_enclosing, read_signature_of, read_superclass};
+use jv_names::{
+    Oracle, ReadSignature, Spot, instance_bodies, read_accessible, read_ctor_of,
+    read_has_enclosing, read_signature_of, read_superclass,
+};
 use jv_tree::{Name, Names};
 use sg_base::Scope;
 use sg_query::Query;
@@ -122,7 +125,11 @@ fn read_call_diags(
 fn only_class(l: &Layout, class: Scope) -> Option<Scope>
     ensures { result ≡ only_class l.now class }
 {
-    if l.is_interface(class) { None } else { Some(class) }
+    if l.is_interface(class) {
+        None
+    } else {
+        Some(class)
+    }
 }
 
 /// The same for a superclass, where there is one.

@@ -32,6 +32,8 @@ mod parts;
 mod qualifier;
 mod queries;
 mod read;
+#[cfg(test)]
+mod read_tests;
 mod reference;
 mod resolved;
 mod results;

@@ -31,7 +31,7 @@ use Rattle.jv_layout.proofs.SoundLists.{from_below, in_image}
 use Rattle.jv_layout.proofs.SoundSkeletons.{skeletons_are_sound}
 use Rattle.jv_tree.specs.declared.names.NameId.{NameId}
 use Rattle.jv_names.specs.declared.context.Context.TheVariants.{OnDemandImport}
-use Rattle.jv_names.specs.Bounds.{IsNamePred, IsNameQuery, IsTypeScope, AreTypes, IsMeant, StaysIn}
+use Rattle.jv_names.specs.Bounds.{IsNamePred, IsNameQuery, IsLayoutQuery, IsTypeScope, AreTypes, IsMeant, StaysIn}
 use Rattle.jv_names.specs.Replies.{Rule}
 use Rattle.jv_names.proofs.Bounds.{type_starts, package_starts, row_is_type, then_stays, done_stays}
 use Rattle.jv_header.specs.declared.header.Header.{Header}
@@ -42,7 +42,7 @@ use Rattle.jv_header.specs.Imports.{ImportsOf, imports_rule, import_edges}
 use Rattle.jv_header.proofs.Bounds.{header_rule_stays, header_row_stays, depends_rule_stays, imports_rule_stays}
 use Rattle.jv_header.proofs.Programs.{start_is_listed}
 use Rattle.jv_member.specs.declared.signature.Signature.{Signature}
-use Rattle.jv_member.specs.Bounds.{IsLayoutQuery, IsNumberedOwn, IsSignatureIn}
+use Rattle.jv_member.specs.Bounds.{IsNumberedOwn, IsSignatureIn}
 use Rattle.jv_member.specs.Members.{members_rule}
 use Rattle.jv_member.proofs.Bounds.{signatures_stay_in}
 use Rattle.jv_member.proofs.MembersAsked.{members_ask_in_layout}
