@@ -183,11 +183,7 @@ fn answer_of(
 }
 
 // The signature of the method `m` of `A` where its query has paths to these ends.
-fn signature_by(
-    alloc: Global,
-    ends: &[u32],
-    params: &[Ty],
-) -> Result<Option<ReadSignature>, Fail> {
+fn signature_by(alloc: Global, ends: &[u32], params: &[Ty]) -> Result<Option<ReadSignature>, Fail> {
     let layout = small_layout(alloc)?;
     let mut oracle = Oracle::new(alloc);
     let answer = answer_of(alloc, 22, labels::SIG, ends, params)?;
