@@ -1,0 +1,17 @@
+pub mod Site
+pub mod Checking
+pub mod Conversions
+pub mod Operators
+pub mod Fields
+pub mod Variables
+pub mod Calls
+pub mod Typed
+pub mod Statements
+pub mod Branches
+pub mod ParamTypes
+pub mod Bodies
+pub mod Sites
+pub mod Manners
+pub mod Bounds
+pub mod Law
+pub mod Behind
