@@ -4,7 +4,6 @@ pub mod Deciding
 pub mod Examples
 pub mod Existing
 pub mod Extending
-mod FlatNames
 pub mod Gathering
 pub mod Marking
 pub mod Paths

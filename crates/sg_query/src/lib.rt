@@ -2,14 +2,10 @@
 //!
 //! A query follows the words of a path expression from a scope, and answers with the visible paths: those to a wanted
 //! datum that no more specific path to the same datum shadows (Neron et al., "A Theory of Name Resolution", ESOP 2015).
-//! The plain resolver here is slow and simple: its contract is the definition. `FlatGraph` is a graph of one scope with the
-//! names that are declared in it, for sources that need no more.
+//! The plain resolver here is slow and simple: its contract is the definition.
 #![tactic(auto)]
 
 mod answer;
-mod flat_graph;
-#[cfg(test)]
-mod flat_graph_tests;
 mod found;
 mod found_paths;
 mod going;
@@ -26,7 +22,6 @@ mod tests;
 mod walk;
 
 pub use answer::Answer;
-pub use flat_graph::FlatGraph;
 pub use found::Found;
 pub use found_paths::FoundPaths;
 pub use kind::Kind;

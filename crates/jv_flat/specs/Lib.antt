@@ -1,4 +1,0 @@
-pub mod FlatWords
-pub mod FlatSource
-pub mod FlatPlaces
-pub mod Laws
