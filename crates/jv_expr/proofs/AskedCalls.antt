@@ -32,14 +32,15 @@ use Rattle.jv_names.proofs.Bounds.{methods_stay_in, object_is_type}
 use Rattle.jv_names.proofs.Listed.{member_is_listed}
 use Rattle.jv_names.proofs.ReadBounds.{ctors_ask_in, instance_bodies_are_types, instances_ask_in, results_ask_in, signatures_ask_in, superclasses_ask_in}
 use Rattle.jv_expr.specs.declared.argument.Argument.{Argument}
+use Rattle.jv_expr.specs.declared.value.Value.{Value}
 use Rattle.jv_expr.specs.declared.front.Front.{Front}
 use Rattle.jv_expr.specs.declared.front.Front.TheVariants.{Value as ValueFront, TypeName as TypeFront}
 use Rattle.jv_expr.specs.Bounds.{IsAnything, IsSiteIn}
-use Rattle.jv_expr.specs.Calls.{Manner, applied, applied_by, arguments_fit, bad_call, bad_super, bare_among, bare_call, bare_in, base_call, call_type, called_among, called_of, chosen, chosen_abstract, chosen_of, class_call, class_methods, class_text, class_type, ctor_call, ctor_called, first_concrete, first_fitting, fits_all, fits_or_bad, front_call, is_abstract_class, is_faulty_call, method_called, new_class, new_meant, or_objects, result_type, super_call, super_called, super_ctor, super_field, through, value_call, with_call, with_enclosing}
+use Rattle.jv_expr.specs.Calls.{Manner, above_call, above_field, applied, applied_by, arguments_fit, bad_call, bad_super, bare_among, bare_call, bare_in, base_call, call_type, called_among, called_of, chosen, chosen_abstract, chosen_of, class_call, class_methods, class_text, class_type, ctor_call, ctor_called, first_concrete, first_fitting, fits_all, fits_or_bad, front_call, is_abstract_class, is_faulty_call, method_called, new_class, new_meant, or_objects, result_type, super_call, super_called, super_ctor, super_field, through, value_call, with_call, with_enclosing, with_super}
 use Rattle.jv_expr.specs.Checking.{Checking}
 use Rattle.jv_expr.specs.Fields.{class_field, result_of}
 use Rattle.jv_expr.specs.Operators.{assigned_to, bad_value, unless_faulty}
-use Rattle.jv_expr.specs.Site.{SiteOf, has_instance, has_super_class, with_fault, with_fault_if, with_named}
+use Rattle.jv_expr.specs.Site.{SiteOf, has_instance, has_this, with_fault, with_fault_if, with_named}
 use Rattle.jv_expr.proofs.AskedConversions.{assigned_asks}
 use Rattle.jv_expr.proofs.AskedFields.{IsFirstValueIn, accessible_asks, class_field_asks, result_in}
 use Rattle.jv_expr.proofs.AskedOperators.{IsOptionIn, unless_in}
@@ -252,13 +253,19 @@ module _ (site : SiteOf) (count : ℕ) (is : IsSiteIn count site) where
     above_asks : AsksIn L count (IsTypeScope L) (superclass L site.class site.extends)
     above_asks = superclasses_ask_in L count site.class site.extends is.linked is.class is.extends
 
+    above_call_asks : (i : Ident) (ds : List DiagOf) → IsNumberedIdent count i → AsksIn L count T (above_call site i as' ds)
+    unfolding above_call
+    above_call_asks i ds n =
+        then_asks L count (IsTypeScope L) T (superclass L site.class site.extends) (λ s. class_call site (record { through = None; free = true; concrete = true }) s i as' ds) above_asks
+        (λ s e. class_call_asks (record { through = None; free = true; concrete = true }) s i ds tt e n)
+
     pub super_call_asks : (at : ℕ) (i : Ident) (ds : List DiagOf) → IsNumberedIdent count i → AsksIn L count T (super_call site at i as' ds)
     unfolding super_call
     super_call_asks at i ds n =
-        cond_asks L count T (has_super_class site) (and_then (superclass L site.class site.extends) (λ s. class_call site (record { through = None; free = true; concrete = true }) s i as' ds)) (done (bad_type, bad_super site at ds))
-        (then_asks L count (IsTypeScope L) T (superclass L site.class site.extends) (λ s. class_call site (record { through = None; free = true; concrete = true }) s i as' ds) above_asks
-        (λ s e. class_call_asks (record { through = None; free = true; concrete = true }) s i ds tt e n))
+        cond_asks L count T (is_interface_of L site.class) (done (bad_type, bad_super site at ds)) (and_then (above_call site i as' (with_super site at ds)) (λ r. done (cond (has_this site) r.0 bad_type, r.1)))
         (done_asks L count T (bad_type, bad_super site at ds) tt)
+        (then_asks L count T T (above_call site i as' (with_super site at ds)) (λ r. done (cond (has_this site) r.0 bad_type, r.1)) (above_call_asks i (with_super site at ds) n)
+        (λ r e. done_asks L count T (cond (has_this site) r.0 bad_type, r.1) (cond_keeps (IsTyIn L) (has_this site) r.0 bad_type e tt)))
 
     -- ---- constructors
 
@@ -315,11 +322,17 @@ module _ (site : SiteOf) (count : ℕ) (is : IsSiteIn count site) where
         then_asks L count (IsTypeScope L) IsAnything (superclass L site.class site.extends) (λ s. cond (is_interface_of L s) (done ds) (super_ctor site s at as' ds)) above_asks
         (λ s e. cond_asks L count IsAnything (is_interface_of L s) (done ds) (super_ctor site s at as' ds) (done_asks L count IsAnything ds tt) (super_ctor_asks s at ds e))
 
+  above_field_asks : (i : Ident) (ds : List DiagOf) → IsNumberedIdent count i → AsksIn L count (IsFirstValueIn L) (above_field site i ds)
+  unfolding above_field
+  above_field_asks i ds n =
+      then_asks L count (IsTypeScope L) (IsFirstValueIn L) (superclass L site.class site.extends) (λ s. class_field site None false s i ds)
+      (superclasses_ask_in L count site.class site.extends is.linked is.class is.extends)
+      (λ s e. class_field_asks site count is None false s i ds tt e n)
+
   pub super_field_asks : (at : ℕ) (i : Ident) (ds : List DiagOf) → IsNumberedIdent count i → AsksIn L count (IsFirstValueIn L) (super_field site at i ds)
   unfolding super_field
   super_field_asks at i ds n =
-      cond_asks L count (IsFirstValueIn L) (has_super_class site) (and_then (superclass L site.class site.extends) (λ s. class_field site None false s i ds)) (done (bad_value, bad_super site at ds))
-      (then_asks L count (IsTypeScope L) (IsFirstValueIn L) (superclass L site.class site.extends) (λ s. class_field site None false s i ds)
-      (superclasses_ask_in L count site.class site.extends is.linked is.class is.extends)
-      (λ s e. class_field_asks site count is None false s i ds tt e n))
+      cond_asks L count (IsFirstValueIn L) (is_interface_of L site.class) (done (bad_value, bad_super site at ds)) (and_then (above_field site i (with_super site at ds)) (λ v. done (cond (has_this site) v.0 bad_value, v.1)))
       (done_asks L count (IsFirstValueIn L) (bad_value, bad_super site at ds) tt)
+      (then_asks L count (IsFirstValueIn L) (IsFirstValueIn L) (above_field site i (with_super site at ds)) (λ v. done (cond (has_this site) v.0 bad_value, v.1)) (above_field_asks i (with_super site at ds) n)
+      (λ v e. done_asks L count (IsFirstValueIn L) (cond (has_this site) v.0 bad_value, v.1) (cond_keeps (λ (x : Value). IsTyIn L x.ty) (has_this site) v.0 bad_value e tt)))

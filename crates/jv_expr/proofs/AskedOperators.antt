@@ -17,7 +17,7 @@ use Rattle.jv_names.specs.Bounds.{AsksIn, IsBaseIn, IsTyIn, IsTypeScope}
 use Rattle.jv_expr.specs.declared.value.Value.{Value}
 use Rattle.jv_expr.specs.Bounds.{IsAnything}
 use Rattle.jv_expr.specs.Conversions.{Sides, bare_sides, sides}
-use Rattle.jv_expr.specs.Operators.{assign_compound, assign_on, assign_plain, assigned_to, binary_on, cast_on, casted, choice_on, choice_text, choice_type, compares, compound_result, element_type, index_on, is_open, may_cast, operand_sides, operated, operator_of, operator_type, or_refused, simply_assigned, unary_on, unless_faulty, with_cast, with_target}
+use Rattle.jv_expr.specs.Operators.{assign_compound, assign_on, assign_plain, assigned_to, bad_for, binary_on, cast_on, casted, choice_on, choice_text, choice_type, compares, compound_result, element_type, index_on, is_open, may_cast, operand_sides, operated, operator_of, operator_type, or_refused, simply_assigned, unary_on, unless_faulty, with_cast, with_target}
 use Rattle.jv_expr.specs.Site.{SiteOf}
 use Rattle.jv_expr.proofs.AskedConversions.{AreSidesIn, assigned_asks, sides_asks}
 use Rattle.jv_expr.proofs.AskedSteps.{First, cond_asks, cond_keeps, done_asks, then_asks}
@@ -149,11 +149,19 @@ module _ (site : SiteOf) (count : ℕ) where
   unfolding cast_on
   cast_asks at t s ds h k =
       then_asks L count (AreSidesIn L count) (First (IsTyIn L)) (sides L s t) (λ p. done (casted site at p ds)) (sides_asks L count s t k h)
-      (λ p e. done_asks L count (First (IsTyIn L)) (casted site at p ds) (unless_in _ _ (cond_keeps (IsTyIn L) (is_bad p.0.ty) bad_type p.1.ty tt e.1)))
+      (λ p e. done_asks L count (First (IsTyIn L)) (casted site at p ds) (unless_in _ _ e.1))
+
+  bad_in : (o : Option Ty) → IsOptionIn L (bad_for o)
+  bad_in None = tt
+  bad_in (Some t) = tt
 
   choice_in : (c : Ty) (p : Sides) → AreSidesIn L count p → IsOptionIn L (choice_type site c p)
   choice_in c p e =
-      cond_keeps (IsOptionIn L) _ (Some bad_type) _ tt (cond_keeps (IsOptionIn L) (is_type c boolean_type) (conditional_type p.0 p.1 (object_scope L)) None (conditional_in L p.0 p.1 (object_scope L) e.0 e.1) tt)
+      let o : Option Ty = conditional_type p.0 p.1 (object_scope L) in
+      let fits : IsOptionIn L o = conditional_in L p.0 p.1 (object_scope L) e.0 e.1 in
+      let chosen : IsOptionIn L (cond (is_type c boolean_type) o None) = cond_keeps (IsOptionIn L) (is_type c boolean_type) o None fits tt in
+      cond_keeps (IsOptionIn L) (is_bad p.0.ty || is_bad p.1.ty) (Some bad_type) (cond (is_bad c) (bad_for o) (cond (is_type c boolean_type) o None)) tt
+      (cond_keeps (IsOptionIn L) (is_bad c) (bad_for o) (cond (is_type c boolean_type) o None) (bad_in o) chosen)
 
   pub choice_asks : (at : ℕ) (c s t : Ty) (ds : List DiagOf) → IsTyIn L s → IsTyIn L t → AsksIn L count (First (IsTyIn L)) (choice_on site at c s t ds)
   unfolding choice_on

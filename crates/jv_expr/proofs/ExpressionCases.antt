@@ -1,5 +1,5 @@
 -- The rule of each kind of expression.
-use Rattle.std.proofs.Common.{◌≡◌, ℕ, Bool, List, Option, Some, None, Result, sym, ap, ◌∙◌, subst, Global}
+use Rattle.std.proofs.Common.{◌≡◌, ℕ, Bool, List, Option, Result, sym, ap, ◌∙◌, subst, Global}
 use Rattle.std.specs.Prelude.{Vec}
 use Rattle.std.specs.declared.boxed.Box.{Box}
 use Rattle.sg_query.specs.declared.answer.Answer.{Answer}
@@ -7,7 +7,6 @@ use Rattle.sg_query.specs.declared.query.Query.{Query}
 use Rattle.sg_reading.specs.declared.stop.Stop.{Stop}
 use Rattle.sg_reading.specs.Reading.{done, and_then}
 use Rattle.sg_reading.specs.Stop.{Reads}
-use Rattle.sg_reading.proofs.Sequences.{and_then-and_then}
 use Rattle.jv_diag.specs.Plain.{DiagOf}
 use Rattle.jv_instance.specs.declared.datum.JavaDatum.{JavaDatum}
 use Rattle.jv_instance.specs.declared.pred.JavaPred.{JavaPred}
@@ -26,21 +25,20 @@ use Rattle.jv_tree.specs.declared.name.Ident.{Ident}
 use Rattle.jv_tree.specs.declared.name.Name.{Name}
 use Rattle.jv_tree.specs.declared.type_ref.TypeRef.{TypeRef}
 use Rattle.jv_tree.specs.ExprTree.{ExprTrees, InitTrees, LinkTrees, expr, call, target_tree, expr_tree, expr_trees, init_tree, init_trees, kind_tree, link_trees, operand_tree}
+use Rattle.jv_tree.specs.Spine.{IsHead}
 use Rattle.jv_tree.specs.TypeTree.{ids_of, type_tree}
 use Rattle.jv_tree.proofs.Rows.{exprs_made, inits_made, links_made}
 use Rattle.jv_types.specs.Operators.{plain}
-use Rattle.jv_expr.specs.declared.front.Front.{Front}
-use Rattle.jv_expr.specs.declared.front.Front.TheVariants.{Value as ValueFront}
 use Rattle.jv_expr.specs.declared.local.Local.{Local}
 use Rattle.jv_expr.specs.declared.value.Value.{Value}
-use Rattle.jv_expr.specs.Behind.{array_made, assign_behind, bare_called, cast_behind, choice_behind, front_called, index_behind, linked, list_made, new_called, super_behind}
+use Rattle.jv_expr.specs.Behind.{array_made, assign_behind, bare_called, cast_behind, choice_behind, linked, list_made, new_called, super_behind}
 use Rattle.jv_expr.specs.Calls.{super_field}
 use Rattle.jv_expr.specs.Checking.{Checking}
-use Rattle.jv_expr.specs.Fields.{field_on}
 use Rattle.jv_expr.specs.Operators.{assigned_to, binary_on, unary_on, value}
 use Rattle.jv_expr.specs.Site.{SiteOf}
-use Rattle.jv_expr.specs.Typed.{as_value, element_needed, front_by, init_typed, inits_typed, is_this, is_variable, link_typed, plain_name, string_type, this_value, typed, with_list, written_at}
-use Rattle.jv_expr.specs.Variables.{name_front, name_value}
+use Rattle.jv_expr.specs.Typed.{as_value, element_needed, init_typed, inits_typed, is_variable, link_typed, string_type, this_value, typed, with_list, written_at}
+use Rattle.jv_expr.specs.Variables.{name_value}
+use Rattle.jv_expr.proofs.Sizes.{head_sizes, operand_below, one_below, elements_below}
 use Rattle.jv_expr.proofs.StatementEnds.{end_steps}
 
 module _ (reply : Query JavaPred → Option (Answer JavaDatum)) (site : SiteOf) (vs : List Local) (ds : List DiagOf) where
@@ -76,13 +74,6 @@ module _ (reply : Query JavaPred → Option (Answer JavaDatum)) (site : SiteOf) 
       pub name_case : (n : Name) → e.kind ≡ NameKind n → Reads reply (name_value site vs (ids_of n) ds) r → Reads reply (typed site vs (expr_tree e) ds) r
       name_case n is h = by_kind (NameKind n) is h
 
-      pub field_case : (x : Box Expr Global) (i : Ident) (y z : Expr) (own : Bool) → e.kind ≡ Field x i → y ≡ x.value → z ≡ x.value → own ≡ is_this (expr_tree z)
-          → Reads reply (and_then (typed site vs (expr_tree y) ds) (λ v. field_on site own v.0.ty i v.1)) r → Reads reply (typed site vs (expr_tree e) ds) r
-      field_case x i y z own is here there k h =
-          let rule : Expr → Bool → Checking Value = λ y own. and_then (typed site vs (expr_tree y) ds) (λ v. field_on site own v.0.ty i v.1) in
-          let same : own ≡ is_this (expr_tree x.value) = k ∙ ap (λ (z : Expr). is_this (expr_tree z)) there in
-          by_kind (Field x i) is (child (λ y. rule y (is_this (expr_tree x.value))) x.value y here (subst (λ (b : Bool). Reads reply (rule y b) r) same h))
-
       pub super_field_case : (i : Ident) → e.kind ≡ SuperField i → Reads reply (super_field site e.at i ds) r → Reads reply (typed site vs (expr_tree e) ds) r
       super_field_case i is h = by_kind (SuperField i) is h
 
@@ -100,37 +91,6 @@ module _ (reply : Query JavaPred → Option (Answer JavaDatum)) (site : SiteOf) 
         pub super_case : t ≡ Super → Reads reply (super_behind site vs e.at i (expr_trees v.items) ds) r → Reads reply (typed site vs (expr_tree e) ds) r
         unfolding super_behind
         super_case same h = by_target Super same h
-
-        -- behind what stands in front of the dot
-        abbrev behind : Front × List DiagOf → Checking Value
-        behind f = front_called site vs f.0 i (expr_trees v.items) f.1
-
-        abbrev fronted : Expr → Option (List Ident) → Checking Value
-        fronted y o = and_then (front_by site vs o (typed site vs (expr_tree y) ds) ds) behind
-
-        by_front : (x : Box Expr Global) → t ≡ On x → Reads reply (fronted x.value (plain_name (expr_tree x.value))) r → Reads reply (typed site vs (expr_tree e) ds) r
-        unfolding front_called
-        by_front x same h = by_target (On x) same h
-
-        pub named_case : (x : Box Expr Global) (z : Expr) (n : Name) (ids : List Ident) → t ≡ On x → z ≡ x.value → plain_name (expr_tree z) ≡ Some (ids_of n) → ids ≡ ids_of n → Reads reply (and_then (name_front site vs ids ds) behind) r → Reads reply (typed site vs (expr_tree e) ds) r
-        named_case x z n ids same there k slice h =
-            let e : plain_name (expr_tree x.value) ≡ Some (ids_of n) = ap (λ (z : Expr). plain_name (expr_tree z)) (sym there) ∙ k in
-            by_front x same (subst (λ (o : Option (List Ident)). Reads reply (fronted x.value o) r) (sym e) (subst (λ (ids : List Ident). Reads reply (and_then (name_front site vs ids ds) behind) r) slice h))
-
-        pub on_case : (x : Box Expr Global) (y z : Expr) → t ≡ On x → y ≡ x.value → z ≡ x.value → plain_name (expr_tree z) ≡ None
-            → Reads reply (and_then (typed site vs (expr_tree y) ds) (λ v. behind (ValueFront v.0, v.1))) r → Reads reply (typed site vs (expr_tree e) ds) r
-        on_case x y z same here there k h =
-            let e : plain_name (expr_tree x.value) ≡ None = ap (λ (z : Expr). plain_name (expr_tree z)) (sym there) ∙ k in
-            by_front x same
-            (subst (λ (o : Option (List Ident)). Reads reply (fronted x.value o) r) (sym e)
-            (subst (λ (q : Checking Value). Reads reply q r) (sym (and_then-and_then (typed site vs (expr_tree x.value) ds) (λ v. done (ValueFront v.0, v.1)) behind))
-            (child (λ y. and_then (typed site vs (expr_tree y) ds) (λ v. behind (ValueFront v.0, v.1))) x.value y here h)))
-
-      pub index_case : (x x' : Box Expr Global) (y y' : Expr) → e.kind ≡ Index x x' → y ≡ x.value → y' ≡ x'.value → Reads reply (and_then (typed site vs (expr_tree y) ds) (λ v. index_behind site vs e.at v.0.ty (expr_tree y') v.1)) r → Reads reply (typed site vs (expr_tree e) ds) r
-      unfolding index_behind
-      index_case x x' y y' is here here' h =
-          let rule : Expr → Expr → Checking Value = λ y y'. and_then (typed site vs (expr_tree y) ds) (λ v. index_behind site vs e.at v.0.ty (expr_tree y') v.1) in
-          by_kind (Index x x') is (child (λ y. rule y x'.value) x.value y here (child (λ y'. rule y y') x'.value y' here' h))
 
       pub new_case : (n : Name) (v : Vec Expr Global) → e.kind ≡ New n v → Reads reply (new_called site vs (ids_of n) (expr_trees v.items) ds) r → Reads reply (typed site vs (expr_tree e) ds) r
       unfolding new_called
@@ -210,8 +170,22 @@ module _ (reply : Query JavaPred → Option (Answer JavaDatum)) (site : SiteOf) 
         (subst (λ (u : Ty). Reads reply (inits_typed site vs u (init_trees v.items) (with_list site at t ds)) r) needed
         (subst (λ (ds' : List DiagOf). Reads reply (inits_typed site vs u (init_trees v.items) ds') r) told h)))
 
-pub ruleset expression_steps = (end_steps, int_case, long_case, char_case, str_case, bool_case, null_case, this_case, name_case, field_case, super_field_case, bare_case, super_case, named_case, on_case, index_case, new_case, array_case, list_case, pre_case, post_case, chain_case, cast_case, choice_case, assign_case)
+-- a field, a call on an expression or an index is no head
+module _ (e : Expr) (head : IsHead (expr_tree e)) where
+  abbrev HasHead : ExprKind → Type 0
+  HasHead k = IsHead (expr e.at (kind_tree k))
 
-pub ruleset operand_steps = (end_steps, operand_case, of_case)
+  pub no_field : (x : Box Expr Global) (i : Ident) → e.kind ≡ Field x i → ⊥
+  no_field x i is = subst HasHead is head
 
-pub ruleset init_steps = (end_steps, one_case, list_init_case)
+  pub no_call : (t : Target) (i : Ident) (v : Vec Expr Global) (x : Box Expr Global) → e.kind ≡ Call t i v → t ≡ On x → ⊥
+  no_call t i v x is on = subst (λ (u : Target). HasHead (Call u i v)) on (subst HasHead is head)
+
+  pub no_index : (x y : Box Expr Global) → e.kind ≡ Index x y → ⊥
+  no_index x y is = subst HasHead is head
+
+pub ruleset expression_steps = (end_steps, int_case, long_case, char_case, str_case, bool_case, null_case, this_case, name_case, super_field_case, bare_case, super_case, new_case, array_case, list_case, pre_case, post_case, chain_case, cast_case, choice_case, assign_case, no_field, no_call, no_index, head_sizes)
+
+pub ruleset operand_steps = (end_steps, operand_case, of_case, operand_below)
+
+pub ruleset init_steps = (end_steps, one_case, list_init_case, one_below, elements_below)

@@ -22,6 +22,7 @@ use Rattle.jv_expr.specs.Checking.{Checking}
 use Rattle.jv_expr.specs.Operators.{with_size}
 use Rattle.jv_expr.specs.Site.{SiteOf}
 use Rattle.jv_expr.specs.Typed.{arguments_typed, init_typed, inits_typed, link_typed, links_typed, sizes_typed, typed}
+use Rattle.jv_expr.proofs.Sizes.{element_sizes}
 use Rattle.jv_expr.proofs.StatementEnds.{end_steps}
 
 module _ (reply : Query JavaPred → Option (Answer JavaDatum)) (site : SiteOf) (vs : List Local) where
@@ -100,4 +101,4 @@ module _ (reply : Query JavaPred → Option (Answer JavaDatum)) (site : SiteOf) 
     pub init_end : (s : List DiagOf) → length xs ≤ i → ds ≡ s → Reads reply (inits_typed site vs t (init_trees (drop i xs)) ds) (Ok s)
     init_end s past is = subst (λ (u : Rule (List DiagOf)). Reads reply u (Ok s)) (sym (at_drop_all (λ (xs : List Init). inits_typed site vs t (init_trees xs) ds) xs i past)) (done_reads reply ds s is)
 
-pub ruleset expression_list_steps = (end_steps, argument_step, argument_stop, argument_end, size_step, size_stop, size_end, link_step, link_stop, link_end, init_step, init_stop, init_end)
+pub ruleset expression_list_steps = (end_steps, argument_step, argument_stop, argument_end, size_step, size_stop, size_end, link_step, link_stop, link_end, init_step, init_stop, init_end, element_sizes)

@@ -27,3 +27,5 @@ pub mod ExpressionLists
 pub mod DiagSteps
 pub mod MarkSteps
 pub mod Counting
+pub mod Sizes
+pub mod SpineSteps

@@ -30,7 +30,7 @@ use Rattle.jv_expr.specs.declared.value.Value.{Value}
 use Rattle.jv_expr.specs.Checking.{Checking}
 use Rattle.jv_expr.specs.Fields.{class_field, lacks_instance, result_of}
 use Rattle.jv_expr.specs.Operators.{assigned_to, bad_value, unless_faulty}
-use Rattle.jv_expr.specs.Site.{SiteOf, has_instance, has_super_class, title, with_fault, with_fault_if, with_named, with_named_if}
+use Rattle.jv_expr.specs.Site.{SiteOf, has_instance, has_this, title, with_fault, with_fault_if, with_named, with_named_if}
 
 -- ---- arguments (JLS 15.12.2)
 
@@ -197,15 +197,30 @@ bare_call site i as' ds = bare_in site site.bodies i as' ds
 abbrev pub bad_super : SiteOf → ℕ → List DiagOf → List DiagOf
 bad_super site at ds = with_fault site at 48 (codes "super" ∷ []) ds
 
+-- where there is no instance of the class, that is said of `super`
+abbrev pub with_super : SiteOf → ℕ → List DiagOf → List DiagOf
+with_super site at ds = cond (has_this site) ds (bad_super site at ds)
+
 -- a method of the superclass is called, which may not be abstract
+unfoldable pub above_call : SiteOf → Ident → List Argument → List DiagOf → Checking Ty
+above_call site i as' ds =
+    and_then (superclass site.layout site.class site.extends) (λ s. class_call site (record { through = None; free = true; concrete = true }) s i as' ds)
+
+-- a call through `super`: in an interface nothing is looked up, and without an instance the method is looked for all the same
 unfoldable pub super_call : SiteOf → ℕ → Ident → List Argument → List DiagOf → Checking Ty
 super_call site at i as' ds =
-    cond (has_super_class site) (and_then (superclass site.layout site.class site.extends) (λ s. class_call site (record { through = None; free = true; concrete = true }) s i as' ds)) (done (bad_type, bad_super site at ds))
+    cond (is_interface_of site.layout site.class) (done (bad_type, bad_super site at ds))
+    (and_then (above_call site i as' (with_super site at ds)) (λ r. done (cond (has_this site) r.0 bad_type, r.1)))
 
 -- a field of the superclass
+unfoldable pub above_field : SiteOf → Ident → List DiagOf → Checking Value
+above_field site i ds = and_then (superclass site.layout site.class site.extends) (λ s. class_field site None false s i ds)
+
+-- a field through `super`, in the same way
 unfoldable pub super_field : SiteOf → ℕ → Ident → List DiagOf → Checking Value
 super_field site at i ds =
-    cond (has_super_class site) (and_then (superclass site.layout site.class site.extends) (λ s. class_field site None false s i ds)) (done (bad_value, bad_super site at ds))
+    cond (is_interface_of site.layout site.class) (done (bad_value, bad_super site at ds))
+    (and_then (above_field site i (with_super site at ds)) (λ v. done (cond (has_this site) v.0 bad_value, v.1)))
 
 -- ---- constructors (JLS 15.9)
 

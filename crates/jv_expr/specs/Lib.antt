@@ -15,3 +15,4 @@ pub mod Manners
 pub mod Bounds
 pub mod Law
 pub mod Behind
+pub mod Steps

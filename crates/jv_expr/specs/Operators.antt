@@ -139,8 +139,9 @@ binary_on site at op s t ds = and_then (operand_sides site op s t) (λ p. done (
 
 -- ---- casts (JLS 15.16)
 
+-- the type that it is cast to, whatever the operand is, unless that is refused
 abbrev pub casted : SiteOf → ℕ → Sides → List DiagOf → Ty × List DiagOf
-casted site at p ds = (unless_faulty (not (may_cast site p)) (cond (is_bad p.0.ty) bad_type p.1.ty), with_cast (may_cast site p) site at p.0.ty p.1.ty ds)
+casted site at p ds = (unless_faulty (not (may_cast site p)) p.1.ty, with_cast (may_cast site p) site at p.0.ty p.1.ty ds)
 
 -- a value of the second type is cast to the first
 unfoldable pub cast_on : SiteOf → ℕ → Ty → Ty → List DiagOf → Checking Ty
@@ -148,14 +149,20 @@ cast_on site at t s ds = and_then (sides site.layout s t) (λ p. done (casted si
 
 -- ---- the conditional (JLS 15.25)
 
--- what the diagnostic of a conditional names: the type of a condition that is not boolean, and else those of the branches
+-- what the diagnostic of a conditional names: the type of a condition that is neither boolean nor bad, and else those of the branches
 abbrev pub choice_text : SiteOf → Ty → Ty → Ty → List ℕ
-choice_text site c s t = cond (is_type c boolean_type) (both_texts site s t) (type_text site c)
+choice_text site c s t = cond (is_bad c || is_type c boolean_type) (both_texts site s t) (type_text site c)
 
--- the type of a conditional whose condition is boolean
+-- bad in place of a type
+abbrev pub bad_for : Option Ty → Option Ty
+bad_for None = None
+bad_for (Some t) = Some bad_type
+
+-- the type of a conditional: bad where a branch is; with a bad condition the branches have to fit one another all the same
 abbrev pub choice_type : SiteOf → Ty → Sides → Option Ty
 choice_type site c p =
-    cond (is_bad c || (is_bad p.0.ty || is_bad p.1.ty)) (Some bad_type) (cond (is_type c boolean_type) (conditional_type p.0 p.1 (object_scope site.layout)) None)
+    cond (is_bad p.0.ty || is_bad p.1.ty) (Some bad_type)
+    (cond (is_bad c) (bad_for (conditional_type p.0 p.1 (object_scope site.layout))) (cond (is_type c boolean_type) (conditional_type p.0 p.1 (object_scope site.layout)) None))
 
 unfoldable pub choice_on : SiteOf → ℕ → Ty → Ty → Ty → List DiagOf → Checking Ty
 choice_on site at c s t ds = and_then (sides site.layout s t) (λ p. done (or_refused (choice_type site c p) site at 17 (choice_text site c s t) ds))

@@ -32,10 +32,6 @@ has_instance site b = list_any (is_scope b) site.instances
 abbrev pub has_this : SiteOf → Bool
 has_this site = has_instance site site.class
 
--- and that is a class, as `super` asks
-abbrev pub has_super_class : SiteOf → Bool
-has_super_class site = has_this site && not (is_interface_of site.layout site.class)
-
 -- ---- diagnostics
 
 -- those so far with one more, of a code at an offset

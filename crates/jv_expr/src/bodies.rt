@@ -281,7 +281,7 @@ fn check_super(
     match call {
         None => Ok(()),
         Some((at, es)) => {
-            let arguments = check_arguments(alloc, site, o, locals, es, ds)?;
+            let arguments = check_arguments(alloc, site, o, locals, es.as_slice(), ds)?;
             check_super_constructor(alloc, site, o, *at, arguments.as_slice(), ds)?;
             Ok(())
         }

@@ -1,12 +1,13 @@
 //! Calls of methods and constructors by the types of their arguments.
 
-ghost use Rattle.std.specs.Prelude.{◌≡◌, ◌<◌, ◌^◌, OnOk};
+ghost use Rattle.std.specs.Prelude.{◌≡◌, ◌<◌, ◌^◌, cond, OnOk};
 ghost use Rattle.sg_reading.specs.Stop.{Reads};
 ghost use Rattle.jv_names.specs.Replies.{reply_to};
-ghost use Rattle.jv_expr.specs.Calls.{bad_super, bare_call, bare_in, base_call, front_call, new_meant, super_call, super_called, super_field, through, value_call};
+ghost use Rattle.jv_expr.specs.Calls.{above_call, above_field, bad_super, bare_call, bare_in, base_call, front_call, new_meant, super_call, super_called, super_field, through, value_call, with_super};
 ghost use Rattle.jv_expr.specs.Checking.{only_diags, with_diags};
 ghost use Rattle.jv_expr.specs.Manners.{manner_of};
-ghost use Rattle.jv_expr.specs.Site.{has_instance, has_super_class};
+ghost use Rattle.jv_expr.specs.Operators.{bad_value};
+ghost use Rattle.jv_expr.specs.Site.{has_instance, has_this};
 ghost use Rattle.jv_expr.specs.Sites.{site_of};
 
 use crate::applying::bad_type;
@@ -32,13 +33,6 @@ fn has_instance(site: &Site<'_>, body: Scope) -> bool
     ensures { result ≡ has_instance (site_of site.now) body }
 {
     site.instances.iter().any(|scope| body == *scope)
-}
-
-/// Whether it has one of the innermost body, and that is a class (JLS 15.11.2).
-fn has_super_class(site: &Site<'_>) -> bool
-    ensures { result ≡ has_super_class (site_of site.now) }
-{
-    has_instance(site, site.class) && !site.layout.is_interface(site.class)
 }
 
 /// Adds that `super` stands without an instance.
@@ -205,6 +199,27 @@ pub(crate) fn check_bare_call(
     )
 }
 
+/// Adds that `super` stands without an instance, where it does.
+fn add_super(alloc: Global, site: &Site<'_>, at: u32, ds: &mut DiagList) -> Result<(), AllocError>
+    ensures { OnOk result (ds.new ≡ with_super (site_of site.now) at ds.old) }
+{
+    if !has_instance(site, site.class) {
+        add_bad_super(alloc, site, at, ds)?;
+    }
+    Ok(())
+}
+
+/// The first where the place has an instance of the innermost body, and else the second.
+fn if_this<T: Drop>(site: &Site<'_>, found: T, other: T) -> T
+    ensures { result ≡ cond (has_this (site_of site.now)) found other }
+{
+    if has_instance(site, site.class) {
+        found
+    } else {
+        other
+    }
+}
+
 /// A call through `super` at an offset (JLS 15.12.1).
 #[tactic(auto, using(crate::proofs::CallSteps::call_steps), unfolding(crate::specs::Calls::super_call))]
 pub(crate) fn check_super_call(
@@ -219,10 +234,28 @@ pub(crate) fn check_super_call(
     requires { site.now.spot.now.file < 2 ^ 31 }
     ensures { Reads (reply_to o.now) (super_call (site_of site.now) at i arguments.now ds.old) (with_diags result ds.new) }
 {
-    if !has_super_class(site) {
+    if site.layout.is_interface(site.class) {
         add_bad_super(alloc, site, at, ds)?;
         return Ok(bad_type());
     }
+    add_super(alloc, site, at, ds)?;
+    let ty = check_above_call(alloc, site, o, i, arguments, ds)?;
+    Ok(if_this(site, ty, bad_type()))
+}
+
+/// A call of a method of the superclass, which may not be abstract.
+#[tactic(auto, using(crate::proofs::CallSteps::call_steps), unfolding(crate::specs::Calls::above_call))]
+fn check_above_call(
+    alloc: Global,
+    site: &Site<'_>,
+    o: &Oracle,
+    i: Ident,
+    arguments: &[Argument],
+    ds: &mut DiagList,
+) -> Result<Ty, Need>
+    requires { site.now.spot.now.file < 2 ^ 31 }
+    ensures { Reads (reply_to o.now) (above_call (site_of site.now) i arguments.now ds.old) (with_diags result ds.new) }
+{
     let class = read_superclass(alloc, site.layout, o, site.class, site.extends)?;
     let how = Manner {
         through: None,
@@ -245,13 +278,37 @@ pub(crate) fn check_super_field(
     requires { site.now.spot.now.file < 2 ^ 31 }
     ensures { Reads (reply_to o.now) (super_field (site_of site.now) at i ds.old) (with_diags result ds.new) }
 {
-    if !has_super_class(site) {
+    if site.layout.is_interface(site.class) {
         add_bad_super(alloc, site, at, ds)?;
-        return Ok(Value {
-            ty: bad_type(),
-            sealed: None,
-        });
+        return Ok(bad_value());
     }
+    add_super(alloc, site, at, ds)?;
+    let v = check_above_field(alloc, site, o, i, ds)?;
+    Ok(if_this(site, v, bad_value()))
+}
+
+/// A bad value.
+fn bad_value() -> Value
+    ensures { result ≡ bad_value }
+{
+    Value {
+        ty: bad_type(),
+        sealed: None,
+    }
+}
+
+/// A field of the superclass.
+#[tactic(auto, using(crate::proofs::CallSteps::call_steps), unfolding(crate::specs::Calls::above_field))]
+fn check_above_field(
+    alloc: Global,
+    site: &Site<'_>,
+    o: &Oracle,
+    i: Ident,
+    ds: &mut DiagList,
+) -> Result<Value, Need>
+    requires { site.now.spot.now.file < 2 ^ 31 }
+    ensures { Reads (reply_to o.now) (above_field (site_of site.now) i ds.old) (with_diags result ds.new) }
+{
     let class = read_superclass(alloc, site.layout, o, site.class, site.extends)?;
     check_class_field(alloc, site, o, None, false, class, i, ds)
 }

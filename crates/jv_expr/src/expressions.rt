@@ -1,13 +1,15 @@
 //! Expressions.
 
-ghost use Rattle.std.specs.Prelude.{◌≡◌, ◌<◌, ◌^◌, [], IfOk};
+ghost use Rattle.std.specs.Prelude.{◌≡◌, ◌<◌, ◌^◌, [], IfOk, map};
 ghost use Rattle.sg_reading.specs.Stop.{Reads};
 ghost use Rattle.jv_tree.specs.ExprTree.{expr_tree, expr_trees, init_tree, init_trees, link_trees, operand_tree};
+ghost use Rattle.jv_tree.specs.Spine.{IsHead, step_kind_tree, step_tree, stepped};
 ghost use Rattle.jv_tree.specs.TypeTree.{ids_of, type_tree};
 ghost use Rattle.jv_names.specs.Replies.{reply_to};
 ghost use Rattle.jv_expr.specs.Behind.{array_made, assign_behind, bare_called, cast_behind, choice_behind, front_called, index_behind, linked, list_made, new_called, super_behind};
 ghost use Rattle.jv_expr.specs.Checking.{only_diags, with_diags};
 ghost use Rattle.jv_expr.specs.Sites.{site_of};
+ghost use Rattle.jv_expr.specs.Steps.{step_typed, steps_typed};
 ghost use Rattle.jv_expr.specs.Typed.{arguments_typed, init_typed, inits_typed, link_typed, links_typed, sizes_typed, typed};
 
 use crate::argument::Argument;
@@ -35,11 +37,13 @@ use crate::variables::{check_name, check_name_front};
 use jv_diag::DiagList;
 use jv_instance::{Ty, TypeBase};
 use jv_names::{Oracle, start_of};
-use jv_tree::{Expr, ExprKind, Ident, Init, Name, Operand, Target, TypeRef};
+use jv_tree::{Expr, ExprKind, Ident, Init, Name, Operand, Step, StepKind, Target, TypeRef};
 use std::alloc::Global;
 
 /// The value of an expression (JLS 15).
-#[tactic(auto, using(crate::proofs::ExpressionCases::expression_steps))]
+///
+/// It goes along the spine in a loop, since a spine is as long as a source. It takes memory in the number of steps.
+#[tactic(auto, using(crate::proofs::SpineSteps::spine_steps))]
 #[cycle(expressions)]
 pub(crate) fn check_expr(
     alloc: Global,
@@ -50,6 +54,31 @@ pub(crate) fn check_expr(
     ds: &mut DiagList,
 ) -> Result<Value, Need>
     requires { site.now.spot.now.file < 2 ^ 31 }
+    ensures { Reads (reply_to o.now) (typed (site_of site.now) locals.now (expr_tree e.now) ds.old) (with_diags result ds.new) }
+{
+    let spine = e.spine(alloc)?;
+    match spine.steps.as_slice().split_first() {
+        None => check_head(alloc, site, o, locals, spine.head, ds),
+        Some((first, others)) => {
+            let v = check_first(alloc, site, o, locals, spine.head, first, ds)?;
+            check_steps(alloc, site, o, locals, v, others, ds)
+        }
+    }
+}
+
+/// The value of an expression that goes on from no other.
+#[tactic(auto, using(crate::proofs::ExpressionCases::expression_steps))]
+#[cycle(expressions)]
+fn check_head(
+    alloc: Global,
+    site: &Site<'_>,
+    o: &Oracle,
+    locals: &[Local],
+    e: &Expr,
+    ds: &mut DiagList,
+) -> Result<Value, Need>
+    requires place { site.now.spot.now.file < 2 ^ 31 }
+    requires head { IsHead (expr_tree e.now) }
     ensures { Reads (reply_to o.now) (typed (site_of site.now) locals.now (expr_tree e.now) ds.old) (with_diags result ds.new) }
 {
     match &e.kind {
@@ -64,30 +93,15 @@ pub(crate) fn check_expr(
             Ok(v)
         }
         ExprKind::Name(name) => check_name(alloc, site, o, locals, name.ids.as_slice(), ds),
-        ExprKind::Field(x, i) => {
-            let v = check_expr(alloc, site, o, locals, x, ds)?;
-            check_field(alloc, site, o, is_this(x), v.ty, *i, ds)
-        }
+        ExprKind::Field(_, _) => unreachable!(),
         ExprKind::SuperField(i) => check_super_field(alloc, site, o, e.at, *i, ds),
         ExprKind::Call(target, i, es) => match target {
             Target::Bare => check_called_bare(alloc, site, o, locals, *i, es, ds),
-            Target::On(x) => match plain_name(x) {
-                Some(name) => {
-                    let f = check_name_front(alloc, site, o, locals, name.ids.as_slice(), ds)?;
-                    check_called(alloc, site, o, locals, f, *i, es, ds)
-                }
-                None => {
-                    let v = check_expr(alloc, site, o, locals, x, ds)?;
-                    check_called(alloc, site, o, locals, Front::Value(v), *i, es, ds)
-                }
-            },
-            Target::Super => check_called_super(alloc, site, o, locals, e.at, *i, es, ds),
+            Target::On(_) => unreachable!(),
+            Target::Super => { check_called_super(alloc, site, o, locals, e.at, *i, es, ds) }
         },
-        ExprKind::Index(x, y) => {
-            let v = check_expr(alloc, site, o, locals, x, ds)?;
-            check_index_behind(alloc, site, o, locals, e.at, v.ty, y, ds)
-        }
-        ExprKind::New(name, es) => check_called_new(alloc, site, o, locals, name, es, ds),
+        ExprKind::Index(_, _) => unreachable!(),
+        ExprKind::New(name, es) => { check_called_new(alloc, site, o, locals, name, es, ds) }
         ExprKind::NewArray(ty, es) => check_array(alloc, site, o, locals, ty, es, ds),
         ExprKind::NewList(ty, list) => check_list(alloc, site, o, locals, ty, list, ds),
         ExprKind::Pre(at, op, x) => {
@@ -132,6 +146,90 @@ pub(crate) fn check_expr(
     }
 }
 
+/// The step behind the head of an expression. Here alone `this` or a name without parentheses may stand in front.
+#[tactic(auto, using(crate::proofs::SpineSteps::first_steps))]
+#[cycle(expressions)]
+fn check_first(
+    alloc: Global,
+    site: &Site<'_>,
+    o: &Oracle,
+    locals: &[Local],
+    head: &Expr,
+    step: &Step<'_>,
+    ds: &mut DiagList,
+) -> Result<Value, Need>
+    requires place { site.now.spot.now.file < 2 ^ 31 }
+    requires head { IsHead (expr_tree head.now) }
+    ensures { Reads (reply_to o.now) (typed (site_of site.now) locals.now (stepped (expr_tree head.now) step.now.at (step_kind_tree step.now.kind)) ds.old) (with_diags result ds.new) }
+{
+    match &step.kind {
+        StepKind::Field(i) => {
+            let v = check_head(alloc, site, o, locals, head, ds)?;
+            check_field(alloc, site, o, is_this(head), v.ty, *i, ds)
+        }
+        StepKind::Call(i, es) => match plain_name(head) {
+            Some(name) => {
+                let f = check_name_front(alloc, site, o, locals, name.ids.as_slice(), ds)?;
+                check_called(alloc, site, o, locals, f, *i, es, ds)
+            }
+            None => {
+                let v = check_head(alloc, site, o, locals, head, ds)?;
+                check_called(alloc, site, o, locals, Front::Value(v), *i, es, ds)
+            }
+        },
+        StepKind::Index(y) => {
+            let v = check_head(alloc, site, o, locals, head, ds)?;
+            check_index_behind(alloc, site, o, locals, step.at, v.ty, y, ds)
+        }
+    }
+}
+
+/// The further steps, one after another.
+#[tactic(auto, using(crate::proofs::SpineSteps::further_steps))]
+#[cycle(expressions)]
+fn check_steps(
+    alloc: Global,
+    site: &Site<'_>,
+    o: &Oracle,
+    locals: &[Local],
+    first: Value,
+    steps: &[Step<'_>],
+    ds: &mut DiagList,
+) -> Result<Value, Need>
+    requires { site.now.spot.now.file < 2 ^ 31 }
+    ensures { Reads (reply_to o.now) (steps_typed (site_of site.now) locals.now first (map step_tree steps.now) ds.old) (with_diags result ds.new) }
+{
+    let mut v = first;
+    for step in steps {
+        v = check_step(alloc, site, o, locals, v, step, ds)?;
+    }
+    Ok(v)
+}
+
+/// A step behind the value of another.
+#[tactic(auto, using(crate::proofs::SpineSteps::one_steps))]
+#[cycle(expressions)]
+fn check_step(
+    alloc: Global,
+    site: &Site<'_>,
+    o: &Oracle,
+    locals: &[Local],
+    v: Value,
+    step: &Step<'_>,
+    ds: &mut DiagList,
+) -> Result<Value, Need>
+    requires { site.now.spot.now.file < 2 ^ 31 }
+    ensures { Reads (reply_to o.now) (step_typed (site_of site.now) locals.now v step.now.at (step_kind_tree step.now.kind) ds.old) (with_diags result ds.new) }
+{
+    match &step.kind {
+        StepKind::Field(i) => check_field(alloc, site, o, false, v.ty, *i, ds),
+        StepKind::Call(i, es) => {
+            check_called(alloc, site, o, locals, Front::Value(v), *i, es, ds)
+        }
+        StepKind::Index(y) => { check_index_behind(alloc, site, o, locals, step.at, v.ty, y, ds) }
+    }
+}
+
 /// A call by a simple name, with its arguments.
 #[tactic(auto, using(crate::proofs::StatementEnds::end_steps), unfolding(crate::specs::Behind::bare_called))]
 #[cycle(expressions)]
@@ -147,7 +245,7 @@ fn check_called_bare(
     requires { site.now.spot.now.file < 2 ^ 31 }
     ensures { Reads (reply_to o.now) (bare_called (site_of site.now) locals.now i (expr_trees es.now.items) ds.old) (with_diags result ds.new) }
 {
-    let arguments = check_arguments(alloc, site, o, locals, es, ds)?;
+    let arguments = check_arguments(alloc, site, o, locals, es.as_slice(), ds)?;
     let ty = check_bare_call(alloc, site, o, i, arguments.as_slice(), ds)?;
     Ok(value(ty))
 }
@@ -162,11 +260,11 @@ fn check_called(
     locals: &[Local],
     front: Front,
     i: Ident,
-    es: &Vec<Expr>,
+    es: &[Expr],
     ds: &mut DiagList,
 ) -> Result<Value, Need>
     requires { site.now.spot.now.file < 2 ^ 31 }
-    ensures { Reads (reply_to o.now) (front_called (site_of site.now) locals.now front i (expr_trees es.now.items) ds.old) (with_diags result ds.new) }
+    ensures { Reads (reply_to o.now) (front_called (site_of site.now) locals.now front i (expr_trees es.now) ds.old) (with_diags result ds.new) }
 {
     let arguments = check_arguments(alloc, site, o, locals, es, ds)?;
     let ty = check_front_call(alloc, site, o, front, i, arguments.as_slice(), ds)?;
@@ -189,7 +287,7 @@ fn check_called_super(
     requires { site.now.spot.now.file < 2 ^ 31 }
     ensures { Reads (reply_to o.now) (super_behind (site_of site.now) locals.now at i (expr_trees es.now.items) ds.old) (with_diags result ds.new) }
 {
-    let arguments = check_arguments(alloc, site, o, locals, es, ds)?;
+    let arguments = check_arguments(alloc, site, o, locals, es.as_slice(), ds)?;
     let ty = check_super_call(alloc, site, o, at, i, arguments.as_slice(), ds)?;
     Ok(value(ty))
 }
@@ -210,7 +308,7 @@ fn check_called_new(
     ensures { Reads (reply_to o.now) (new_called (site_of site.now) locals.now (ids_of name.now) (expr_trees es.now.items) ds.old) (with_diags result ds.new) }
 {
     let reference = check_named(alloc, site, o, name, ds)?;
-    let arguments = check_arguments(alloc, site, o, locals, es, ds)?;
+    let arguments = check_arguments(alloc, site, o, locals, es.as_slice(), ds)?;
     let at = start_of(name.ids.as_slice());
     let ty = check_new(
         alloc,
@@ -379,11 +477,11 @@ pub(crate) fn check_arguments(
     site: &Site<'_>,
     o: &Oracle,
     locals: &[Local],
-    es: &Vec<Expr>,
+    es: &[Expr],
     ds: &mut DiagList,
 ) -> Result<ArgumentList, Need>
     requires { site.now.spot.now.file < 2 ^ 31 }
-    ensures { Reads (reply_to o.now) (arguments_typed (site_of site.now) locals.now (expr_trees es.now.items) [] ds.old) (with_diags result ds.new) }
+    ensures { Reads (reply_to o.now) (arguments_typed (site_of site.now) locals.now (expr_trees es.now) [] ds.old) (with_diags result ds.new) }
 {
     let mut arguments = ArgumentList::empty(alloc);
     for e in es {

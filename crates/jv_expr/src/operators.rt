@@ -5,7 +5,7 @@ ghost use Rattle.std.specs.String.{string_bytes};
 ghost use Rattle.sg_reading.specs.Stop.{Reads};
 ghost use Rattle.jv_names.specs.Replies.{reply_to};
 ghost use Rattle.jv_expr.specs.Checking.{with_diags, only_diags};
-ghost use Rattle.jv_expr.specs.Operators.{assign_compound, assign_on, assign_plain, binary_on, both_texts, cast_on, casted, choice_on, choice_text, choice_type, compound_result, element_type, index_on, is_open, may_be_instance, may_cast, operand_sides, operated, operator_of, operator_type, or_refused, signed, simply_assigned, stepped, unary_on, unless_faulty, with_cast, with_refused, with_sealed, with_target};
+ghost use Rattle.jv_expr.specs.Operators.{assign_compound, assign_on, assign_plain, bad_for, binary_on, both_texts, cast_on, casted, choice_on, choice_text, choice_type, compound_result, element_type, index_on, is_open, may_be_instance, may_cast, operand_sides, operated, operator_of, operator_type, or_refused, signed, simply_assigned, stepped, unary_on, unless_faulty, with_cast, with_refused, with_sealed, with_target};
 ghost use Rattle.jv_expr.specs.Site.{type_text};
 ghost use Rattle.jv_expr.specs.Sites.{site_of};
 
@@ -271,16 +271,29 @@ fn casted(
     let from = p.left.ty();
     let to = p.right.ty();
     add_cast(alloc, ok, site, at, from, to, ds)?;
-    let ty = if from.is_bad() { BAD } else { to };
-    Ok(unless_faulty(!ok, ty))
+    Ok(unless_faulty(!ok, to))
 }
 
-/// The type of a conditional whose condition is boolean.
+/// Bad in place of a type.
+fn bad_for(found: Option<Ty>) -> Option<Ty>
+    ensures { result ≡ bad_for found }
+{
+    match found {
+        Some(_) => Some(BAD),
+        None => None,
+    }
+}
+
+/// The type of a conditional: bad where a branch is. With a bad condition the branches have to fit one another all the same.
 fn choice_type(site: &Site<'_>, condition: Ty, p: &Pair) -> Option<Ty>
     ensures { result ≡ choice_type (site_of site.now) condition p.now }
 {
-    if condition.is_bad() || (p.left.ty().is_bad() || p.right.ty().is_bad()) {
+    if p.left.ty().is_bad() || p.right.ty().is_bad() {
         return Some(BAD);
+    }
+    if condition.is_bad() {
+        let found = conditional(p.left.as_side(), p.right.as_side(), site.layout.object());
+        return bad_for(found);
     }
     if is_type(condition, BOOLEAN) {
         return conditional(p.left.as_side(), p.right.as_side(), site.layout.object());

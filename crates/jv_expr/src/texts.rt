@@ -78,7 +78,7 @@ pub(crate) fn choice_text(
 ) -> Result<String, AllocError>
     ensures { IfOk result (λ s. string_bytes s ≡ choice_text (site_of site.now) condition left right) }
 {
-    if is_type(condition, BOOLEAN) {
+    if condition.is_bad() || is_type(condition, BOOLEAN) {
         both_texts(alloc, site, left, right)
     } else {
         site.layout.type_text(alloc, site.names, condition)
