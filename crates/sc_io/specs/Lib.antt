@@ -1,4 +1,5 @@
 pub mod Faults
+pub mod SourceFile
 pub mod SourceTree
 pub mod Sink
 pub mod FileList

@@ -14,6 +14,7 @@ mod mem_tree;
 mod plain_sink;
 mod plain_tree;
 mod sink;
+mod source_file;
 mod source_tree;
 mod std_sink;
 mod walk;
@@ -26,6 +27,7 @@ pub use mem_tree::MemTree;
 pub use plain_sink::PlainSink;
 pub use plain_tree::PlainTree;
 pub use sink::Sink;
+pub use source_file::SourceFile;
 pub use source_tree::SourceTree;
 pub use std_sink::StdSink;
 

@@ -1,0 +1,5 @@
+mod Members
+mod Order
+mod SortedOnce
+mod Reports
+mod Files

@@ -1,0 +1,4 @@
+pub mod Law
+pub mod Read
+pub mod Reading
+pub mod Sources

@@ -1,0 +1,125 @@
+//! Folders of sources with faults and without, written by hand.
+
+ghost use Rattle.std.specs.Prelude.{IsTrue};
+ghost use Rattle.sc_io.specs.SourceFile.{sources_of};
+ghost use Rattle.sc_sources.specs.Read.{AreWithinLimits};
+
+use crate::{Sources, read_sources};
+use sc_io::SourceFile;
+use std::alloc::{AllocError, Global};
+use std::fmt::Write;
+use std::test::Fail;
+
+// Whether files are within the limits.
+fn are_within_limits(files: &[SourceFile]) -> bool
+    ensures { IsTrue result → AreWithinLimits (sources_of files.now) }
+{
+    if files.len() > 4096 {
+        return false;
+    }
+    let mut total = 0usize;
+    for file in files {
+        if file.bytes.len() > 1_048_576 {
+            return false;
+        }
+        total += file.bytes.len();
+    }
+    total <= 4_194_304
+}
+
+// Files of these bytes.
+fn files_of(alloc: Global, sources: &[&[u8]]) -> Result<Vec<SourceFile>, AllocError> {
+    let mut files = Vec::new(alloc);
+    for source in sources {
+        files.push(SourceFile {
+            path: String::from_str(alloc, "A.java")?,
+            bytes: Vec::from_slice(alloc, source)?,
+        })?;
+    }
+    Ok(files)
+}
+
+// How many trees there are, and how many names, or each fault by its file, its place and its code.
+fn shown(alloc: Global, sources: &[&[u8]]) -> Result<String, Fail> {
+    let files = files_of(alloc, sources)?;
+    if !are_within_limits(&files) {
+        return Err(Fail::new("too many bytes"));
+    }
+    let mut text = String::new(alloc);
+    match read_sources(alloc, &files)? {
+        Sources::Trees { names, units } => {
+            write!(text, "{} trees, {} names", units.len(), names.len())?;
+        }
+        Sources::Faults(faults) => {
+            for fault in faults.as_slice() {
+                write!(
+                    text,
+                    "{}:{}: {} {}; ",
+                    fault.file, fault.at, fault.code, fault.text
+                )?;
+            }
+        }
+    }
+    Ok(text)
+}
+
+// The prelude has 14 names: `java`, `lang`, `Object`, `equals`, `o`, `hashCode`, `String`, `toString`, `length`,
+// `charAt`, `i`, `isEmpty`, `concat` and `s`.
+const FOLDERS: [(&[&[u8]], &str); 10] = [
+    (&[], "2 trees, 14 names"),
+    (&[b"class A {}"], "3 trees, 15 names"),
+    (
+        &[b"class A { String s; }", b"class B {}"],
+        "4 trees, 16 names",
+    ),
+    (&[b"class A {} \xFF"], "2:11: 1 not UTF-8; "),
+    (&[b"class A { int f( }"], "2:0: 2 syntax error; "),
+    (
+        &[b"class A { int a = 2147483648; }"],
+        "2:18: 3 bad literal; ",
+    ),
+    (&[b"class A { int a = -2147483648; }"], "3 trees, 16 names"),
+    (&[b"class A { # }"], "2:10: 5 bad token; "),
+    (
+        &[b"class A {} \xFF", b"class B {}", b"class C {"],
+        "2:11: 1 not UTF-8; 4:0: 2 syntax error; ",
+    ),
+    (&[b"class A {}", b"#", b"class C {}"], "3:0: 5 bad token; "),
+];
+
+#[test]
+fn folders(rt: HostRuntime) -> Result<(), Fail> {
+    for (sources, want) in FOLDERS {
+        let found = shown(rt.alloc(), sources)?;
+        assert_eq!(rt; found.as_str(), want);
+    }
+    Ok(())
+}
+
+// A field whose value stands between so many pairs of parentheses.
+fn nested(alloc: Global, times: u32) -> Result<String, AllocError> {
+    let mut source = String::from_str(alloc, "class A { int a = ")?;
+    for _time in 0..times {
+        source.push('(')?;
+    }
+    source.push('1')?;
+    for _time in 0..times {
+        source.push(')')?;
+    }
+    source.push_str("; }")?;
+    Ok(source)
+}
+
+#[test]
+fn nested_too_deep(rt: HostRuntime) -> Result<(), Fail> {
+    let source = nested(rt.alloc(), 40)?;
+    let found = shown(rt.alloc(), &[source.as_bytes()])?;
+    assert_eq!(rt; found.as_str(), "3 trees, 16 names");
+    let deep = nested(rt.alloc(), 199)?;
+    let found = shown(rt.alloc(), &[deep.as_bytes(), b"#", b"class B {}"])?;
+    assert_eq!(rt;
+        found.as_str(),
+        "2:216: 4 nested too deep; 3:0: 5 bad token; "
+    );
+    Ok(())
+}
