@@ -1,4 +1,5 @@
 pub mod Folders
+pub mod MemberBodies
 pub mod MemberPlaces
 pub mod NewUnits
 pub mod Numbers

@@ -8,7 +8,7 @@ use Rattle.std.proofs.lemmas.List.FromFn.{length-range_with_len, get_or-range_wi
 use Rattle.sg_base.specs.declared.scope.Scope.{Scope}
 use Rattle.sg_base.specs.Graph.{Edge, HasScope}
 use Rattle.sg_base.specs.List.{IsDistinct}
-use Rattle.sg_base.proofs.Finite.{nothing_in, single, Contains-head, Contains-tail, Contains-cons, Contains-filter, Contains-map, Distinct-filter, flat_map-Contains}
+use Rattle.sg_base.proofs.Finite.{nothing_in, single, Contains-head, Contains-tail, Contains-cons, Contains-filter, Contains-map, map-Contains, Distinct-filter, flat_map-Contains}
 use Rattle.sg_query.specs.declared.query.Query.{Query}
 use Rattle.sg_reading.specs.Reading.{done, AllAsked}
 use Rattle.sg_reading.proofs.Asking.{AllAsked-more, AllEnds-more, and_then-asked, and_then-asked_where}
@@ -24,14 +24,19 @@ use Rattle.jv_instance.specs.declared.labels.TheConstants.{SIMP, ODI, EXT}
 use Rattle.jv_instance.specs.declared.pred.JavaPred.{JavaPred}
 use Rattle.jv_instance.specs.declared.pred.JavaPred.TheVariants.{Named, Any}
 use Rattle.jv_layout.specs.Folder.{LayoutOf}
-use Rattle.jv_layout.specs.Readers.{member_at, members_of_type}
-use Rattle.jv_layout.specs.Scopes.{file_scope, place_of, signature_of_member, type_scope}
+use Rattle.jv_layout.specs.declared.place.Place.TheVariants.{Ty}
+use Rattle.jv_layout.specs.Readers.{file_of, member_at, members_at, members_of, members_of_type}
+use Rattle.jv_layout.specs.Scopes.{file_scope, member_scope, place_of, signature_of_member, type_scope}
 use Rattle.jv_layout.specs.Skeleton.{below, skeleton_of, file_hold, file_holds, signature_hold, signature_holds, type_hold, type_holds}
 use Rattle.jv_layout.proofs.SoundLists.{from_below, in_image}
+use Rattle.jv_layout.proofs.SoundPlaces.{scopes_have_places}
 use Rattle.jv_layout.proofs.SoundSkeletons.{skeletons_are_sound}
+use Rattle.jv_member.specs.Own.{OwnMember, own_field, own_method, own_ctor, default_ctor}
+use Rattle.jv_expr.proofs.AskedBodies.{fields_ask_in, methods_ask_in, constructors_ask_in}
+use Rattle.jv_names.proofs.Listed.{members_listed}
 use Rattle.jv_tree.specs.declared.names.NameId.{NameId}
 use Rattle.jv_names.specs.declared.context.Context.TheVariants.{OnDemandImport}
-use Rattle.jv_names.specs.Bounds.{IsNamePred, IsNameQuery, IsLayoutQuery, IsTypeScope, AreTypes, IsMeant, StaysIn}
+use Rattle.jv_names.specs.Bounds.{IsNamePred, IsNameQuery, IsLayoutQuery, IsListed, IsTypeScope, AreTypes, IsMeant, StaysIn}
 use Rattle.jv_names.specs.Replies.{Rule}
 use Rattle.jv_names.proofs.Bounds.{type_starts, package_starts, row_is_type, then_stays, done_stays}
 use Rattle.jv_header.specs.declared.header.Header.{Header}
@@ -50,7 +55,8 @@ use Rattle.jv_tree.specs.DeclTree.{TypeDeclTree}
 use Rattle.jv_tree.specs.Numbered.{IsNumberedDecl}
 use Rattle.jv_unit.specs.Folder.{FolderOf, IsFolderOf, java_preds}
 use Rattle.jv_unit.specs.Owns.{own_at}
-use Rattle.jv_unit.specs.Plans.{class_of, member_part, member_signature, signature_datum, signature_stage, type_part, with_checks, with_members, with_parts, java_plan, file_rows, file_edges, file_stage, file_stages, file_ending, type_row, type_stage, type_stages, type_ending, behind_header}
+use Rattle.jv_unit.specs.Plans.{class_of, member_part, member_signature, signature_datum, signature_stage, type_part, with_checks, with_members, with_parts, java_plan, file_rows, file_edges, file_stage, file_stages, file_ending, type_row, type_stage, type_stages, type_ending, behind_header, beyond_prelude, own_file_ending, own_type_ending, whole_ending}
+use Rattle.jv_unit.specs.MemberBodies.{all_bodies, member_body, own_body, type_blanks, with_bodies}
 use Rattle.jv_unit.specs.Trees.{decl_at, unit_at, name_of, extends_of, implements_of}
 use Rattle.jv_unit.proofs.Numbers.{decl_numbered, members_are_owns, owns_numbered, imports_numbered, extends_numbered, implements_numbered}
 use Rattle.jv_unit.proofs.Trees.{types_of_decls}
@@ -243,7 +249,35 @@ module _ (w : FolderOf) (h : IsFolderOf w) where
         then_stays w.layout (length w.names) (λ (ds : List DiagOf). Unit {0}) (λ (ds : List DiagOf). Unit {0}) (member_part w t m) (λ p. with_parts w t (ds ++ p) ms) (part_stays m (below m (Contains-head m ms)))
         (λ p k. parts_stay (ds ++ p) ms (λ n c. below n (Contains-tail m n ms c)))
 
+    -- ---- bodies
+
+    members_are : members_of w.layout c ≡ map (member_scope w.layout) (members_of_type w.layout t)
+    members_are = ap (members_at w.layout) ((scopes_have_places w.layout c (Ty t)).1 (within, refl))
+
+    member_listed : (m : ℕ) → Contains (members_of_type w.layout t) m → IsListed w.layout (member_scope w.layout m)
+    member_listed m k =
+        All-contains (IsListed w.layout) (members_of w.layout c) (member_scope w.layout m) (members_listed w.layout c)
+        (subst (λ (ss : List Scope). Contains ss (member_scope w.layout m)) (sym members_are) (map-Contains (member_scope w.layout) (members_of_type w.layout t) m k))
+
+    own_asks : (blanks : List Scope) (s : Scope) (o : OwnMember) → IsListed w.layout s → IsNumberedOwn (length w.names) o → AllAsked (IsLayoutQuery w.layout (length w.names)) (own_body w.layout w.names c (extends_of decl) blanks s o)
+    own_asks blanks s (own_field ms x v) k n = (fields_ask_in w.layout (length w.names) w.names c (extends_of decl) s v.init h.linked is_type (extends_numbered (length w.names) decl numbered) k n.1.1).asks
+    own_asks blanks s (own_method m) k n = (methods_ask_in w.layout (length w.names) w.names c (extends_of decl) s m h.linked is_type (extends_numbered (length w.names) decl numbered) k n).asks
+    own_asks blanks s (own_ctor d) k n = (constructors_ask_in w.layout (length w.names) w.names c (extends_of decl) blanks s d h.linked is_type (extends_numbered (length w.names) decl numbered) k n).asks
+    own_asks blanks s (default_ctor name) k n = tt
+
     module _ (u : ℕ) (is : u ≡ length w.layout.files + t) where
+      body_asks : (blanks : List Scope) (m : ℕ) → Contains (members_of_type w.layout t) m → AllAsked (IsQuery (java_plan w u)) (member_body w t blanks m)
+      body_asks blanks m k =
+          AllAsked-more (IsLayoutQuery w.layout (length w.names)) (IsQuery (java_plan w u)) (member_body w t blanks m) (layout_query_in u)
+          (own_asks blanks (member_scope w.layout m) (own_at w.files m) (member_listed m k) (own_numbered m (member_below w.layout t m k)))
+
+      bodies_ask : (blanks : List Scope) (ds : List DiagOf) (ms : List ℕ) → ((m : ℕ) → Contains ms m → Contains (members_of_type w.layout t) m) → AllAsked (IsQuery (java_plan w u)) (with_bodies w t blanks ds ms)
+      unfolding with_bodies
+      bodies_ask blanks ds [] k = tt
+      bodies_ask blanks ds (m ∷ ms) k =
+          and_then-asked (IsQuery (java_plan w u)) (member_body w t blanks m) (λ p. with_bodies w t blanks (ds ++ p) ms) (body_asks blanks m (k m (Contains-head m ms)))
+          (λ p. bodies_ask blanks (ds ++ p) ms (λ n x. k n (Contains-tail m n ms x)))
+
       type_row_held : HoldsRow (opened_of (skeleton_of w.layout)) u c EXT
       type_row_held =
           let k : RowHold = record { scope = c; label = EXT; unit = u } in
@@ -292,6 +326,11 @@ module _ (w : FolderOf) (h : IsFolderOf w) where
           let rule = header_rule w.layout w.names c (extends_of decl) (implements_of decl) in
           and_then-asked_where (IsQuery (java_plan w u)) (λ (x : Header). AreTypes w.layout x.row) rule (behind_header w t)
           (asks_in u (λ (x : Header). AreTypes w.layout x.row) rule header_stays) header_stays.ends behind_asks
+
+      pub whole_ending_asks : AllAsked (IsQuery (java_plan w u)) (whole_ending w t)
+      whole_ending_asks =
+          and_then-asked (IsQuery (java_plan w u)) (type_ending w t) (all_bodies w t) type_ending_asks
+          (λ ds. bodies_ask (type_blanks w t) ds (members_of_type w.layout t) (λ m k. k))
 
   -- ---- units
 
@@ -342,9 +381,15 @@ module _ (w : FolderOf) (h : IsFolderOf w) where
     stages_apart true = alone (file_stage w u)
     stages_apart false = type_stages_apart (u - length w.layout.files)
 
-    ending_asks : (b : Bool) → nat_lt u (length w.layout.files) ≡ b → AllAsked (IsQuery (java_plan w u)) (cond b (file_ending w u) (type_ending w (u - length w.layout.files)))
-    ending_asks true e = file_ending_asks u (ltb-true u (length w.layout.files) e)
-    ending_asks false e = let not_below = not_lt e in type_ending_asks (u - length w.layout.files) (omega (arith, not_below, within)) u (omega (arith, not_below))
+    beyond_asks : (file : ℕ) (r : Rule (List DiagOf)) → AllAsked (IsQuery (java_plan w u)) r → AllAsked (IsQuery (java_plan w u)) (beyond_prelude file r)
+    beyond_asks file r k = elim (nat_lt file 2) as (λ (b : Bool). AllAsked (IsQuery (java_plan w u)) (cond b (done []) r)) [ true ↦ tt | false ↦ k ]
+
+    ending_asks : (b : Bool) → nat_lt u (length w.layout.files) ≡ b → AllAsked (IsQuery (java_plan w u)) (cond b (own_file_ending w u) (own_type_ending w (u - length w.layout.files)))
+    ending_asks true e = beyond_asks u (file_ending w u) (file_ending_asks u (ltb-true u (length w.layout.files) e))
+    ending_asks false e =
+        let not_below = not_lt e in
+        let t = u - length w.layout.files in
+        beyond_asks (file_of w.layout (type_scope w.layout t)) (whole_ending w t) (whole_ending_asks t (omega (arith, not_below, within)) u (omega (arith, not_below)))
 
     pub units_are_sound : IsSound (java_plan w u)
     units_are_sound = record {

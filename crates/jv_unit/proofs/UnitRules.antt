@@ -21,7 +21,7 @@ use Rattle.jv_names.specs.Replies.{Rule}
 use Rattle.jv_unit.specs.declared.folder.Folder.{Folder}
 use Rattle.jv_unit.specs.Folder.{FolderOf}
 use Rattle.jv_unit.specs.Kept.{folder_of}
-use Rattle.jv_unit.specs.Plans.{file_stage, file_stages, file_ending, signature_stage, type_stage, type_stages, type_ending, unit_stages, unit_ending}
+use Rattle.jv_unit.specs.Plans.{file_stage, file_stages, own_file_ending, own_type_ending, signature_stage, type_stage, type_stages, unit_stages, unit_ending}
 use Rattle.jv_unit.specs.Scripts.{ReadsStageOf}
 
 abbrev Replies : Type 0
@@ -79,13 +79,13 @@ module _ (w : FolderOf) (u : ℕ) where
     pub type_stage_read : (n t : ℕ) (x : Result (List (Write JavaDatum)) (Stop (Query JavaPred))) → length w.layout.files ≤ u → t ≡ u - length w.layout.files → ReadsStageOf reply (type_stages w t) n x → ReadsStageOf reply (unit_stages w u) n x
     type_stage_read n t x above at h = subst (λ (ss : List (Stage JavaDatum JavaPred)). ReadsStageOf reply ss n x) (sym (type_stages_are t above at)) h
 
-    pub file_ending_read : (x : Result (List DiagOf) (Stop (Query JavaPred))) → u < length w.layout.files → Reads reply (file_ending w u) x → Reads reply (unit_ending w u) x
-    file_ending_read x below h = subst (λ (r : Rule (List DiagOf)). Reads reply r x) (sym (cond_below u (length w.layout.files) (file_ending w u) (type_ending w (u - length w.layout.files)) below)) h
+    pub file_ending_read : (x : Result (List DiagOf) (Stop (Query JavaPred))) → u < length w.layout.files → Reads reply (own_file_ending w u) x → Reads reply (unit_ending w u) x
+    file_ending_read x below h = subst (λ (r : Rule (List DiagOf)). Reads reply r x) (sym (cond_below u (length w.layout.files) (own_file_ending w u) (own_type_ending w (u - length w.layout.files)) below)) h
 
-    pub type_ending_read : (t : ℕ) (x : Result (List DiagOf) (Stop (Query JavaPred))) → length w.layout.files ≤ u → t ≡ u - length w.layout.files → Reads reply (type_ending w t) x → Reads reply (unit_ending w u) x
+    pub type_ending_read : (t : ℕ) (x : Result (List DiagOf) (Stop (Query JavaPred))) → length w.layout.files ≤ u → t ≡ u - length w.layout.files → Reads reply (own_type_ending w t) x → Reads reply (unit_ending w u) x
     type_ending_read t x above at h =
         subst (λ (r : Rule (List DiagOf)). Reads reply r x)
-        (ap (λ (k : ℕ). type_ending w k) at ∙ sym (cond_above u (length w.layout.files) (file_ending w u) (type_ending w (u - length w.layout.files)) above)) h
+        (ap (λ (k : ℕ). own_type_ending w k) at ∙ sym (cond_above u (length w.layout.files) (own_file_ending w u) (own_type_ending w (u - length w.layout.files)) above)) h
 
 -- ---- the stages of a type
 

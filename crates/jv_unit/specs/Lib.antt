@@ -1,5 +1,6 @@
 pub mod Folder
 pub mod Kept
+pub mod MemberBodies
 pub mod MemberPlaces
 pub mod Owns
 pub mod Paths

@@ -10,7 +10,7 @@ use Rattle.jv_instance.specs.declared.datum.JavaDatum.{JavaDatum}
 use Rattle.jv_instance.specs.declared.pred.JavaPred.{JavaPred}
 use Rattle.jv_instance.specs.declared.labels.TheConstants.{SIMP, ODI, EXT}
 use Rattle.jv_layout.specs.Folder.{LayoutOf}
-use Rattle.jv_layout.specs.Readers.{members_of_type}
+use Rattle.jv_layout.specs.Readers.{file_of, members_of_type}
 use Rattle.jv_layout.specs.Scopes.{file_scope, signature_of_member, type_scope}
 use Rattle.jv_layout.specs.Skeleton.{skeleton_of}
 use Rattle.jv_names.specs.Replies.{Rule}
@@ -24,6 +24,7 @@ use Rattle.jv_member.specs.Members.{members_rule}
 use Rattle.jv_member.specs.Signatures.{signature_rule}
 use Rattle.jv_tree.specs.declared.names.NameId.{NameId}
 use Rattle.jv_unit.specs.Folder.{FolderOf, java_preds}
+use Rattle.jv_unit.specs.MemberBodies.{all_bodies}
 use Rattle.jv_unit.specs.Owns.{own_at}
 use Rattle.jv_unit.specs.Trees.{decl_at, unit_at, name_of, mods_of, extends_of, implements_of}
 
@@ -102,8 +103,13 @@ type_part w t h ds = (h.diags ++ ds) ++ declared_diags w.layout w.names (type_sc
 abbrev pub behind_header : FolderOf → ℕ → Header → Rule (List DiagOf)
 behind_header w t h = and_then (depends_rule w.layout w.names (type_scope w.layout t) (name_of (decl_at w.files t)) h.row) (λ ds. with_members w t (type_part w t h ds))
 
+-- the diagnostics of a type but for those of its bodies
 abbrev pub type_ending : FolderOf → ℕ → Rule (List DiagOf)
 type_ending w t = and_then (header_rule w.layout w.names (type_scope w.layout t) (extends_of (decl_at w.files t)) (implements_of (decl_at w.files t))) (behind_header w t)
+
+-- the diagnostics of a type: of what it declares, and of the bodies of its members
+abbrev pub whole_ending : FolderOf → ℕ → Rule (List DiagOf)
+whole_ending w t = and_then (type_ending w t) (all_bodies w t)
 
 -- the first stage of a type: its supertypes
 abbrev pub type_stage : FolderOf → ℕ → Stage JavaDatum JavaPred
@@ -119,9 +125,19 @@ type_stages w t = type_stage w t ∷ map (signature_stage w t) (members_of_type 
 abbrev pub unit_stages : FolderOf → ℕ → List (Stage JavaDatum JavaPred)
 unit_stages w u = cond (nat_lt u (length w.layout.files)) (file_stages w u) (type_stages w (u - length w.layout.files))
 
+-- what is left out for the first two files, which are the prelude's
+abbrev pub beyond_prelude : ℕ → Rule (List DiagOf) → Rule (List DiagOf)
+beyond_prelude file r = cond (nat_lt file 2) (done []) r
+
+abbrev pub own_file_ending : FolderOf → ℕ → Rule (List DiagOf)
+own_file_ending w f = beyond_prelude f (file_ending w f)
+
+abbrev pub own_type_ending : FolderOf → ℕ → Rule (List DiagOf)
+own_type_ending w t = beyond_prelude (file_of w.layout (type_scope w.layout t)) (whole_ending w t)
+
 -- what the unit with a number comes to
 abbrev pub unit_ending : FolderOf → ℕ → Rule (List DiagOf)
-unit_ending w u = cond (nat_lt u (length w.layout.files)) (file_ending w u) (type_ending w (u - length w.layout.files))
+unit_ending w u = cond (nat_lt u (length w.layout.files)) (own_file_ending w u) (own_type_ending w (u - length w.layout.files))
 
 -- the unit of a file writes its imports, and comes to their diagnostics; the unit of a type writes its supertypes and the signatures of its members,
 -- and comes to its diagnostics

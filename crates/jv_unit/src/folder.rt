@@ -84,7 +84,7 @@ impl Folder {
 
     /// How many files there are.
     #[tactic(auto, using(crate::proofs::Folders::folder_facts))]
-    pub(crate) fn file_count(&self) -> u32
+    pub fn file_count(&self) -> u32
         requires { IsWhole self.now }
         ensures { result ≡ length self.now.layout.files }
     {
@@ -93,7 +93,7 @@ impl Folder {
 
     /// How many types there are.
     #[tactic(auto, using(crate::proofs::Folders::folder_facts))]
-    pub(crate) fn type_count(&self) -> u32
+    pub fn type_count(&self) -> u32
         requires { IsWhole self.now }
         ensures count { result ≡ length self.now.layout.types }
         ensures few { length self.now.layout.files + length self.now.layout.types < 2 ^ 31 }
@@ -113,7 +113,7 @@ impl Folder {
 
     /// The scope of the type with a number.
     #[tactic(auto, using(crate::proofs::Folders::folder_facts))]
-    pub(crate) fn ty(&self, t: u32) -> Scope
+    pub fn ty(&self, t: u32) -> Scope
         requires whole { IsWhole self.now }
         requires within { t < length self.now.layout.types }
         ensures { result ≡ type_scope self.now.layout t }
@@ -123,7 +123,7 @@ impl Folder {
 
     /// The declaration of the type with a number, in the time of how deep it nests.
     #[tactic(auto, using(crate::proofs::Folders::folder_facts))]
-    pub(crate) fn decl(&self, t: u32) -> &TypeDecl
+    pub fn decl(&self, t: u32) -> &TypeDecl
         requires whole { IsWhole self.now }
         requires within { t < length self.now.layout.types }
         ensures { type_decl_tree result.now ≡ decl_at (folder_of self.now).files t }

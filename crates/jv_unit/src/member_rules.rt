@@ -37,7 +37,7 @@ pub(crate) fn member_count(w: &Folder, t: u32) -> usize
 
 /// The scope of a member of a type, by its place among them.
 #[tactic(auto, using(crate::proofs::OwnMembers::member_facts))]
-fn member_at(w: &Folder, t: u32, place: usize) -> Scope
+pub(crate) fn member_at(w: &Folder, t: u32, place: usize) -> Scope
     requires whole { IsWhole w.now }
     requires within { t < length w.now.layout.types }
     requires place { place < length (members_of_type w.now.layout t) }
@@ -48,7 +48,7 @@ fn member_at(w: &Folder, t: u32, place: usize) -> Scope
 
 /// The number of a member of a type, by its place among them.
 #[tactic(auto, using(crate::proofs::OwnMembers::member_facts))]
-fn member_number(w: &Folder, t: u32, place: usize) -> u32
+pub(crate) fn member_number(w: &Folder, t: u32, place: usize) -> u32
     requires whole { IsWhole w.now }
     requires within { t < length w.now.layout.types }
     requires place { place < length (members_of_type w.now.layout t) }

@@ -5,13 +5,14 @@ ghost use Rattle.std.specs.List.{slice_get};
 ghost use Rattle.sg_reading.specs.Stop.{Reads};
 ghost use Rattle.jv_names.specs.Replies.{reply_to};
 ghost use Rattle.jv_unit.specs.Kept.{folder_of, IsWhole};
-ghost use Rattle.jv_unit.specs.Plans.{type_stages, unit_ending, unit_stages};
+ghost use Rattle.jv_unit.specs.Plans.{own_file_ending, own_type_ending, type_stages, unit_ending, unit_stages};
 ghost use Rattle.jv_unit.specs.Scripts.{ReadsStageOf};
 
+use crate::body_rules::finish_whole;
 use crate::file_rules::{finish_file, read_file};
 use crate::folder::Folder;
 use crate::member_rules::{member_count, read_datum};
-use crate::type_rules::{finish_type, read_type};
+use crate::type_rules::read_type;
 use jv_diag::DiagList;
 use jv_instance::{JavaDatum, JavaPred};
 use jv_names::Oracle;
@@ -75,6 +76,42 @@ pub(crate) fn read_unit(
     }
 }
 
+/// The diagnostics of a file, unless it is one of the prelude's, which come first.
+#[tactic(auto, using(crate::proofs::MemberBodies::prelude_steps))]
+fn finish_own_file(
+    alloc: Global,
+    w: &Folder,
+    o: &Oracle,
+    file: u32,
+) -> Result<DiagList, Stop<Query<JavaPred>>>
+    requires whole { IsWhole w.now }
+    requires within { file < length w.now.layout.files }
+    ensures { Reads (reply_to o.now) (own_file_ending (folder_of w.now) file) result }
+{
+    if file < 2 {
+        return Ok(DiagList::empty(alloc));
+    }
+    finish_file(alloc, w, o, file)
+}
+
+/// The diagnostics of a type, unless it stands in a file of the prelude.
+#[tactic(auto, using(crate::proofs::MemberBodies::prelude_steps))]
+fn finish_own_type(
+    alloc: Global,
+    w: &Folder,
+    o: &Oracle,
+    t: u32,
+) -> Result<DiagList, Stop<Query<JavaPred>>>
+    requires whole { IsWhole w.now }
+    requires within { t < length w.now.layout.types }
+    ensures { Reads (reply_to o.now) (own_type_ending (folder_of w.now) t) result }
+{
+    if w.layout().file_of(w.ty(t)) < 2 {
+        return Ok(DiagList::empty(alloc));
+    }
+    finish_whole(alloc, w, o, t)
+}
+
 /// The diagnostics of a unit as far as the replies tell them, or the first query that has no reply.
 pub(crate) fn finish_unit(
     alloc: Global,
@@ -88,8 +125,8 @@ pub(crate) fn finish_unit(
 {
     let files = w.file_count();
     if unit < files {
-        finish_file(alloc, w, o, unit)
+        finish_own_file(alloc, w, o, unit)
     } else {
-        finish_type(alloc, w, o, unit - files)
+        finish_own_type(alloc, w, o, unit - files)
     }
 }

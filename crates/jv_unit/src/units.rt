@@ -25,17 +25,16 @@ fn java_unit(alloc: Global, folder: &Arc<Folder, Global>, unit: u32) -> Result<J
 }
 
 /// The units of a folder, listed by number: one for each file, in the order of files, and behind them one for each type, in the
-/// order of types. They have given nothing yet. It takes time in their number.
-pub fn java_units(alloc: Global, folder: Folder) -> Result<Vec<JavaUnit>, AllocError>
-    requires { IsWhole folder }
-    ensures units { IfOk result (λ us. AreUnitsOf (folder_of folder) us.items) }
-    ensures new { IfOk result (λ us. AreNewUnits (opened_of (skeleton_of folder.layout)) folder.kinds.value us.items) }
+/// order of types. They share the folder, and have given nothing yet. It takes time in their number.
+pub fn java_units(alloc: Global, folder: &Arc<Folder, Global>) -> Result<Vec<JavaUnit>, AllocError>
+    requires { IsWhole (arc_value folder.now) }
+    ensures units { IfOk result (λ us. AreUnitsOf (folder_of (arc_value folder.now)) us.items) }
+    ensures new { IfOk result (λ us. AreNewUnits (opened_of (skeleton_of (arc_value folder.now).layout)) (arc_value folder.now).kinds.value us.items) }
 {
     let count = folder.file_count() + folder.type_count();
-    let shared = Arc::new(alloc, folder)?;
     let mut units = Vec::new(alloc);
     for unit in 0..count {
-        units.push(java_unit(alloc, &shared, unit)?)?;
+        units.push(java_unit(alloc, folder, unit)?)?;
     }
     Ok(units)
 }

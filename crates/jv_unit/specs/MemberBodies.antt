@@ -1,0 +1,56 @@
+-- What is checked of the bodies and the initializers of a type's members.
+use Rattle.std.specs.Prelude.{ℕ, ◌&&◌, not, Bool, false, cond, List, [], ◌∷◌, ◌++◌, is_some}
+use Rattle.sg_base.specs.declared.scope.Scope.{Scope}
+use Rattle.sg_reading.specs.Reading.{done, and_then}
+use Rattle.jv_diag.specs.Plain.{DiagOf}
+use Rattle.jv_expr.specs.Bodies.{ctor_rule, field_rule, method_rule}
+use Rattle.jv_layout.specs.Folder.{LayoutOf}
+use Rattle.jv_layout.specs.Readers.{is_final_of, is_static_of, members_of_type}
+use Rattle.jv_layout.specs.Scopes.{member_scope, type_scope}
+use Rattle.jv_member.specs.Own.{OwnMember, own_field, own_method, own_ctor, default_ctor}
+use Rattle.jv_names.specs.Replies.{Rule}
+use Rattle.jv_tree.specs.declared.name.Ident.{Ident}
+use Rattle.jv_unit.specs.Folder.{FolderOf}
+use Rattle.jv_unit.specs.Owns.{own_at}
+use Rattle.jv_unit.specs.Trees.{decl_at, extends_of}
+
+-- ---- blank fields (JLS 8.3.1.2)
+
+-- a final instance field without an initializer, which a constructor of its class assigns
+abbrev pub is_blank : LayoutOf → Scope → OwnMember → Bool
+is_blank l s (own_field ms t v) = is_final_of l s && (not (is_static_of l s) && not (is_some v.init))
+is_blank l s (own_method m) = false
+is_blank l s (own_ctor c) = false
+is_blank l s (default_ctor name) = false
+
+-- those among some members, behind others
+abbrev pub blanks_among : FolderOf → List Scope → List ℕ → List Scope
+blanks_among w bs [] = bs
+blanks_among w bs (m ∷ ms) =
+    blanks_among w (cond (is_blank w.layout (member_scope w.layout m) (own_at w.files m)) (bs ++ member_scope w.layout m ∷ []) bs) ms
+
+-- the blank fields of a type
+abbrev pub type_blanks : FolderOf → ℕ → List Scope
+type_blanks w t = blanks_among w [] (members_of_type w.layout t)
+
+-- ---- bodies
+
+-- the diagnostics of the body or the initializer of a member of a type; a default constructor has none
+abbrev pub own_body : LayoutOf → List (List ℕ) → Scope → List (List Ident) → List Scope → Scope → OwnMember → Rule (List DiagOf)
+own_body l names c extends blanks s (own_field ms t v) = field_rule l names c extends s v.init
+own_body l names c extends blanks s (own_method m) = method_rule l names c extends s m
+own_body l names c extends blanks s (own_ctor k) = ctor_rule l names c extends blanks s k
+own_body l names c extends blanks s (default_ctor name) = done []
+
+abbrev pub member_body : FolderOf → ℕ → List Scope → ℕ → Rule (List DiagOf)
+member_body w t blanks m =
+    own_body w.layout w.names (type_scope w.layout t) (extends_of (decl_at w.files t)) blanks (member_scope w.layout m) (own_at w.files m)
+
+-- the diagnostics of the bodies of some members behind those so far
+unfoldable pub with_bodies : FolderOf → ℕ → List Scope → List DiagOf → List ℕ → Rule (List DiagOf)
+with_bodies w t blanks ds [] = done ds
+with_bodies w t blanks ds (m ∷ ms) = and_then (member_body w t blanks m) (λ p. with_bodies w t blanks (ds ++ p) ms)
+
+-- and of all members of a type
+abbrev pub all_bodies : FolderOf → ℕ → List DiagOf → Rule (List DiagOf)
+all_bodies w t ds = with_bodies w t (type_blanks w t) ds (members_of_type w.layout t)
