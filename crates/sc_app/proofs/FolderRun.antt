@@ -12,6 +12,7 @@ use Rattle.sg_state.specs.Held.{HeldOf}
 use Rattle.sg_state.specs.Opening.{IsSoundOpening, OpeningOf, opened_of}
 use Rattle.sg_unit.specs.Own.{own}
 use Rattle.sg_unit.specs.Served.{IsHonestBy}
+use Rattle.sg_unit.specs.Trace.{told}
 use Rattle.jv_instance.specs.declared.datum.JavaDatum.{JavaDatum}
 use Rattle.jv_instance.specs.declared.java.Java.{Java}
 use Rattle.jv_instance.specs.Data.{is_wanted}
@@ -28,11 +29,13 @@ use Rattle.jv_tree.specs.declared.declaration.Unit.{Unit as Tree}
 use Rattle.jv_tree.specs.DeclTree.{UnitTree, tree_of}
 use Rattle.jv_tree.specs.Numbered.{IsNumbered}
 use Rattle.jv_tree.proofs.Numbers.{unit_stays}
+use Rattle.jv_unit.specs.declared.folder.Folder.{Folder}
 use Rattle.jv_unit.specs.Folder.{FolderOf, IsFolderOf}
+use Rattle.jv_unit.specs.Kept.{IsWhole}
 use Rattle.jv_unit.specs.Plans.{JavaPlan, java_plan}
 use Rattle.jv_unit.specs.Scripts.{JavaUnit, plan_of, AreNewUnits, AreUnitsOf, IsUnit}
 use Rattle.jv_unit.proofs.NewUnits.{units_are_new}
-use Rattle.sc_app.specs.FolderRun.{AreNumbered, JavaCore, IsFolderRun, RunsFolder, same_datum, setting_of_plan}
+use Rattle.sc_app.specs.FolderRun.{AreNumbered, FollowsBy, JavaCore, IsFolderRun, same_datum, setting_of_plan}
 
 module _ (l : LayoutOf) (names : List (List ℕ)) (us : List UnitTree) (layout : l ≡ layout_of names us) (folder : IsFolder us) where
   linked : IsLinked l
@@ -43,9 +46,6 @@ module _ (l : LayoutOf) (names : List (List ℕ)) (us : List UnitTree) (layout :
 
   pub is_folder_of : (kinds : List KindOf) → AreNumbered (length names) us → AreKinds kinds → IsFolderOf (record { layout = l; names = names; files = us; kinds = kinds })
   is_folder_of kinds numbered java = record { layout = layout; linked = linked; few = few; numbered = numbered; kinds = java }
-
-  pub opening_is_sound : (o : OpeningOf JavaDatum) → o ≡ skeleton_of l → IsSoundOpening o
-  opening_is_sound o e = subst IsSoundOpening (sym e) (skeletons_are_sound l linked few)
 
 -- ---- trees whose identifiers have numbers of names
 
@@ -87,23 +87,41 @@ module _ (w : FolderOf) (us : List JavaUnit) (units : AreUnitsOf w us) (old c : 
       let v = some_at us u (omega (arith, h, units.count)) in
       subst (IsHonestAs u) (units.each u v.0 v.1).plan (ran.honest u v.0 v.1)
 
+  each_follows : (u : ℕ) → u < length w.layout.files + length w.layout.types → FollowsBy w c u
+  each_follows u h =
+      let v = some_at us u (omega (arith, h, units.count)) in
+      let s = ran.each u v.0 v.1 in
+      let r = s.0 in
+      record {
+        reply = reply_to r.script.replies;
+        asked = r.asked;
+        pending = r.pending;
+        stage = r.stage;
+        ended = r.ended;
+        follows = subst (λ (p : JavaPlan). FollowsPlan {I = Java} p (reply_to r.script.replies) r.asked r.pending r.stage r.ended (told (own u c.log)).past (told (own u c.log)).last) (s.2 ∙ (units.each u v.0 v.1).plan) (s.3).0;
+      }
+
   folder_runs : IsFolderRun w c
-  folder_runs = record { opening = ran.opening ∙ opening; kinds = ran.kinds ∙ kinds; core = ran.core; over = ran.over; honest = each_honest }
+  folder_runs = record { opening = ran.opening ∙ opening; kinds = ran.kinds ∙ kinds; core = ran.core; over = ran.over; follows = each_follows; honest = each_honest }
 
 if_ok : {A E : Type 0} (P Q : A → Type 0) (r : Result A E) → ((x : A) → P x → Q x) → IfOk r P → IfOk r Q
 if_ok P Q (Ok x) f h = f x h
 if_ok P Q (Err e) f h = tt
 
-module _ (l : LayoutOf) (names : List (List ℕ)) (files : List UnitTree) (t : List KindOf) (java : AreKinds t) (us : List JavaUnit) (units : AreUnitsOf (record { layout = l; names = names; files = files; kinds = t }) us)
-    (old : JavaCore) (o : HeldOf JavaDatum) (core : old ≡ record { opening = o; kinds = t; log = [] }) (begun : o ≡ opened_of (skeleton_of l)) where
-  begins : old.opening ≡ opened_of (skeleton_of l)
+module _ (w : FolderOf) (us : List JavaUnit) (units : AreUnitsOf w us) (old : JavaCore) (o : HeldOf JavaDatum) (kinds : List KindOf) (core : old ≡ record { opening = o; kinds = kinds; log = [] })
+    (begun : o ≡ opened_of (skeleton_of w.layout)) (table : kinds ≡ w.kinds) where
+  begins : old.opening ≡ opened_of (skeleton_of w.layout)
   begins = ap (λ (k : JavaCore). k.opening) core ∙ begun
 
-  by_kinds : old.kinds ≡ t
-  by_kinds = ap (λ (k : JavaCore). k.kinds) core
+  by_kinds : old.kinds ≡ w.kinds
+  by_kinds = ap (λ (k : JavaCore). k.kinds) core ∙ table
 
-  pub has_run : {E : Type 0} (r : Result JavaCore E) → IfOk r (HasRunOf old us) → IfOk r (RunsFolder l names files)
-  has_run r h = if_ok (HasRunOf old us) (RunsFolder l names files) r (λ c ran. (t, java, folder_runs (record { layout = l; names = names; files = files; kinds = t }) us units old c begins by_kinds ran)) h
+  pub has_run : {E : Type 0} (r : Result JavaCore E) → IfOk r (HasRunOf old us) → IfOk r (IsFolderRun w)
+  has_run r h = if_ok (HasRunOf old us) (IsFolderRun w) r (λ c ran. folder_runs w us units old c begins by_kinds ran) h
 
   pub may_run : AreNewUnits old.opening old.kinds us
-  may_run = rw (begins, by_kinds) (units_are_new (record { layout = l; names = names; files = files; kinds = t }) us units)
+  may_run = rw (begins, by_kinds) (units_are_new w us units)
+
+-- the opening of a folder is sound
+pub opening_of_folder : (w : Folder) (o : OpeningOf JavaDatum) → IsWhole w → o ≡ skeleton_of w.layout → IsSoundOpening o
+opening_of_folder w o whole e = subst IsSoundOpening (sym e) (skeletons_are_sound w.layout whole.folder.linked whole.folder.few)

@@ -1,34 +1,30 @@
 -- What the words and the files determine, and what a run writes of it.
-use Rattle.std.specs.Prelude.{◌≡◌, ◌≢◌, ◌<◌, ◌≤◌, ◌⊎◌, ℕ, List, codes, length, Option}
-use Rattle.std.specs.List.{Contains}
+use Rattle.std.specs.Prelude.{◌≡◌, ◌<◌, ◌≤◌, ◌⊎◌, ℕ, List, codes, length, Option, None, Some}
 use Rattle.sc_io.specs.Sink.{AddsAll, AddsFront}
-use Rattle.sc_io.specs.SourceTree.{FileOf, IsJavaPath}
+use Rattle.sc_io.specs.SourceTree.{FileOf}
+use Rattle.sc_sources.specs.Read.{most_files}
 use Rattle.sc_app.specs.declared.status.Status.{Status}
 use Rattle.sc_app.specs.declared.status.Status.TheVariants.{Clean, Found, Usage, ReadFault, WriteFault, Limit, OutOfMemory}
-use Rattle.sc_app.specs.declared.status.Which.TheVariants.{Files, FileBytes}
+use Rattle.sc_app.specs.declared.status.Which.{Which}
+use Rattle.sc_app.specs.declared.status.Which.TheVariants.{Files, FileBytes, TotalBytes, Types}
 use Rattle.sc_app.specs.Command.{IsCheck}
-use Rattle.sc_app.specs.FlatReport.{IsReport}
-use Rattle.sc_app.specs.Lines.{line, last_line}
-use Rattle.sc_app.specs.Statuses.{status_of}
+use Rattle.sc_app.specs.Diagnoses.{DeclareTooMany, IsReport}
+use Rattle.sc_app.specs.Lines.{line}
+use Rattle.sc_app.specs.Sourced.{AreSources, passed_from}
 
--- a file of the folder that ends in `.java`
-abbrev pub IsSource : List FileOf → FileOf → Type 0
-IsSource fs f = Contains fs f × IsJavaPath f.path
+-- the line of a limit that is passed
+abbrev pub limit_line : Which → List ℕ
+limit_line Files = line (codes "limit files")
+limit_line FileBytes = line (codes "limit file bytes")
+limit_line TotalBytes = line (codes "limit total bytes")
+limit_line Types = line (codes "limit types")
 
--- the one source of the folder
-abbrev pub IsOnlySource : List FileOf → FileOf → Type 0
-IsOnlySource fs f = IsSource fs f × ((g : FileOf) → IsSource fs g → g ≡ f)
-
--- the most bytes that a file may have: 1 MiB
-abbrev pub largest_file : ℕ
-largest_file = 1048576
-
--- the report on a folder, or the limit that it passes, with the status
+-- the report on a folder, or the limit that it passes first, with the status
 pub data Checks (fs : List FileOf) : List ℕ → Status → Type 0 where
-  no_file : ((f : FileOf) → IsSource fs f → ⊥) → Checks fs (last_line 0 0 0) Clean
-  many_files : (f g : FileOf) → IsSource fs f → IsSource fs g → f.path ≢ g.path → Checks fs (line (codes "limit files")) (Limit Files)
-  long_file : (f : FileOf) → IsOnlySource fs f → largest_file < length f.bytes → Checks fs (line (codes "limit file bytes")) (Limit FileBytes)
-  report : (f : FileOf) → IsOnlySource fs f → length f.bytes ≤ largest_file → (bytes : List ℕ) (errors : ℕ) → IsReport f bytes errors → Checks fs bytes (status_of errors)
+  many_files : (ss : List FileOf) → AreSources fs ss → most_files < length ss → Checks fs (limit_line Files) (Limit Files)
+  many_bytes : (ss : List FileOf) (which : Which) → AreSources fs ss → length ss ≤ most_files → passed_from 0 ss ≡ Some which → Checks fs (limit_line which) (Limit which)
+  many_types : (ss : List FileOf) → AreSources fs ss → length ss ≤ most_files → passed_from 0 ss ≡ None → DeclareTooMany ss → Checks fs (limit_line Types) (Limit Types)
+  report : (ss : List FileOf) (bytes : List ℕ) (status : Status) → AreSources fs ss → length ss ≤ most_files → passed_from 0 ss ≡ None → IsReport ss bytes status → Checks fs bytes status
 
 -- the bytes that the words and the files tell, and the status
 pub data Told (words : List (List ℕ)) (fs : List FileOf) : List ℕ → Status → Type 0 where

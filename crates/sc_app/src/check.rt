@@ -1,19 +1,21 @@
-ghost use Rattle.std.specs.Prelude.{◌≡◌, ◌≤◌, Err, IfOk, IfSome, MatchResult, Ok};
-ghost use Rattle.sc_app.specs.Lines.{last_line, line};
-ghost use Rattle.sc_app.specs.Statuses.{IsReportStatus};
-ghost use Rattle.sc_app.specs.Told.{Checks};
+ghost use Rattle.std.specs.Prelude.{◌≡◌, ◌≤◌, Err, IfOk, IfSome, MatchResult, Ok, length, map};
+ghost use Rattle.jv_diag.specs.Plain.{diag_of};
+ghost use Rattle.sc_app.specs.Checked.{IsChecked};
+ghost use Rattle.sc_app.specs.Statuses.{IsReportStatus, status_of};
+ghost use Rattle.sc_app.specs.Told.{Checks, limit_line};
 ghost use Rattle.sc_io.specs.Faults.{HasRisen};
+ghost use Rattle.sc_io.specs.SourceFile.{sources_of};
+ghost use Rattle.sc_report.specs.Report.{report_text};
+ghost use Rattle.sc_sources.specs.Read.{AreWithinLimits};
 
-use crate::flat_report::file_report;
-use crate::line::push_last_line;
-use crate::listed::{Listed, count_paths};
+use crate::gather::{Gathered, gather};
+use crate::outcome::Outcome;
+use crate::project::{ProjectFault, check_project};
 use crate::report::Report;
 use crate::status::{Status, Which};
-use sc_io::{Content, SourceTree, TreeFault};
+use sc_io::{SourceFile, SourceTree, TreeFault};
+use sc_report::report_text;
 use std::alloc::{AllocError, Global};
-
-/// The most bytes that a file may have: 1 MiB.
-const LARGEST_FILE: u64 = 1_048_576;
 
 /// The report on the sources of a tree, or the limit that they pass.
 pub(crate) fn check<T: SourceTree>(alloc: Global, tree: &mut T) -> Result<Report, TreeFault>
@@ -23,14 +25,10 @@ pub(crate) fn check<T: SourceTree>(alloc: Global, tree: &mut T) -> Result<Report
     ensures status { IfOk result (λ r. IsReportStatus r.status) }
     ensures failed { result ≡ Err TreeFault.Failed → HasRisen (T.faults tree.old) (T.faults tree.new) }
 {
-    let paths = tree.list(alloc)?;
-    match count_paths(paths.as_slice()) {
-        Listed::Nothing => reported(no_file(alloc)),
-        Listed::Many => reported(refusal(alloc, b"limit files\n", Which::Files)),
-        Listed::One(path) => match tree.read(alloc, path, LARGEST_FILE)? {
-            Content::Whole(source) => reported(file_report(alloc, path, source.as_slice())),
-            Content::TooLong => reported(refusal(alloc, b"limit file bytes\n", Which::FileBytes)),
-        },
+    let gathered = gather(alloc, tree)?;
+    match gathered {
+        Gathered::Sources(files) => reported(folder_report(alloc, files)),
+        Gathered::Passed(limit) => reported(refusal(alloc, limit)),
     }
 }
 
@@ -41,22 +39,42 @@ fn reported(report: Result<Report, AllocError>) -> Result<Report, TreeFault>
     report.map_err(|_| TreeFault::OutOfMemory)
 }
 
-/// The report on no file.
-fn no_file(alloc: Global) -> Result<Report, AllocError>
-    ensures { IfOk result (λ r. (r.bytes.items ≡ last_line 0 0 0) × (r.status ≡ Status.Clean)) }
+/// The report on sources, or that they declare too many types.
+fn folder_report(alloc: Global, files: Vec<SourceFile>) -> Result<Report, AllocError>
+    requires { AreWithinLimits (sources_of files.items) }
+    ensures { IfOk result (λ r. IsChecked (sources_of files.items) r.bytes.items r.status) }
 {
-    let mut bytes = Vec::new(alloc);
-    push_last_line(&mut bytes, 0, 0, 0)?;
+    match check_project(alloc, files) {
+        Ok(outcome) => outcome_report(alloc, &outcome),
+        Err(ProjectFault::TooManyTypes) => refusal(alloc, Which::Types),
+        Err(ProjectFault::OutOfMemory) => Err(AllocError),
+    }
+}
+
+/// The bytes of an outcome, and their status.
+fn outcome_report(alloc: Global, outcome: &Outcome) -> Result<Report, AllocError>
+    requires { AreWithinLimits (sources_of outcome.now.sources.items) }
+    ensures bytes { IfOk result (λ r. r.bytes.items ≡ report_text (sources_of outcome.now.sources.items) (map diag_of outcome.now.diags.items) outcome.now.types) }
+    ensures status { IfOk result (λ r. r.status ≡ status_of (length outcome.now.diags.items)) }
+{
+    let files = outcome.sources.as_slice();
+    let bytes = report_text(alloc, files, outcome.diags.as_slice(), outcome.types)?;
     Ok(Report {
         bytes,
-        status: Status::Clean,
+        status: Status::of_errors(outcome.diags.len()),
     })
 }
 
 /// What is written where a limit is passed.
-fn refusal(alloc: Global, text: &[u8], limit: Which) -> Result<Report, AllocError>
-    ensures { IfOk result (λ r. (r.bytes.items ≡ text.now) × (r.status ≡ Status.Limit limit)) }
+fn refusal(alloc: Global, limit: Which) -> Result<Report, AllocError>
+    ensures { IfOk result (λ r. (r.bytes.items ≡ limit_line limit) × (r.status ≡ Status.Limit limit)) }
 {
+    let text = match limit {
+        Which::Files => b"limit files\n".as_slice(),
+        Which::FileBytes => b"limit file bytes\n".as_slice(),
+        Which::TotalBytes => b"limit total bytes\n".as_slice(),
+        Which::Types => b"limit types\n".as_slice(),
+    };
     Ok(Report {
         bytes: Vec::from_slice(alloc, text)?,
         status: Status::Limit(limit),

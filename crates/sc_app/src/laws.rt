@@ -1,11 +1,13 @@
 //! What holds of all words and files.
 ghost use Rattle.sc_app.specs.Laws.{ToldIsOne};
 
-use jv_flat::laws::declarations_are_one;
+use crate::folder_laws::folders_have_one_report;
+use sc_sources::laws::sources_are_read_once;
 
 /// The words and the files tell one list of bytes and one status at most.
 pub fn told_is_one()
     ensures { ToldIsOne }
 {
-    declarations_are_one();
+    sources_are_read_once();
+    folders_have_one_report();
 }

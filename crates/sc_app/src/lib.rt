@@ -5,23 +5,25 @@
 #![tactic(auto)]
 
 mod check;
+mod circular;
 mod command;
-mod flat_report;
-#[cfg(test)]
+pub mod folder_laws;
 mod folder_run;
 #[cfg(test)]
 mod folder_run_tests;
+mod gather;
 #[cfg(test)]
 mod header_tests;
+mod heard;
 pub mod laws;
 #[cfg(test)]
 mod layout_tests;
-mod line;
-mod listed;
 #[cfg(test)]
 mod member_tests;
-mod place;
+mod outcome;
+mod project;
 mod report;
+mod results;
 #[cfg(test)]
 mod sources;
 mod status;
@@ -29,5 +31,7 @@ mod status;
 mod tests;
 mod top_call;
 
+pub use outcome::Outcome;
+pub use project::{ProjectFault, check_project};
 pub use status::{Status, Which};
 pub use top_call::run;

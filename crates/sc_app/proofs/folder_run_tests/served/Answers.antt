@@ -4,11 +4,11 @@ use Rattle.jv_layout.specs.Sizes.{IsFolder}
 use Rattle.jv_tree.specs.DeclTree.{tree_of}
 use Rattle.sc_app.proofs.folder_run_tests.served.Goals as goal
 
-pub run_folder-requires-clause-layout : goal.run_folder-requires-clause-layout
-run_folder-requires-clause-layout c = c.in_ok-layout.ensures.layout ∙ ap (λ us. layout_of c.trees.new.names (map tree_of us)) c.deref.ensures.value
+pub share_folder-requires-clause-layout : goal.share_folder-requires-clause-layout
+share_folder-requires-clause-layout c = c.in_ok-layout.ensures.layout ∙ ap (λ us. layout_of c.trees.new.names (map tree_of us)) c.deref.ensures.value
 
-pub run_folder-requires-clause-folder : goal.run_folder-requires-clause-folder
-run_folder-requires-clause-folder c = subst (λ us. IsFolder (map tree_of us)) c.deref.ensures.value c.in_ok-layout.ensures.folder
+pub share_folder-requires-clause-folder : goal.share_folder-requires-clause-folder
+share_folder-requires-clause-folder c = subst (λ us. IsFolder (map tree_of us)) c.deref.ensures.value c.in_ok-layout.ensures.folder
 
-pub run_folder-requires-clause-numbered : goal.run_folder-requires-clause-numbered
-run_folder-requires-clause-numbered c = c.in_ok-units.ensures
+pub share_folder-requires-clause-numbered : goal.share_folder-requires-clause-numbered
+share_folder-requires-clause-numbered c = c.in_ok-units.ensures

@@ -1,0 +1,21 @@
+-- When a run ends with which status.
+use Rattle.std.specs.Prelude.{◌≡◌, ◌⊎◌, ℕ, List, Option, IfSome}
+use Rattle.sc_io.specs.Sink.{AddsAll}
+use Rattle.sc_io.specs.SourceTree.{FileOf}
+use Rattle.sc_app.specs.declared.status.Status.{Status}
+use Rattle.sc_app.specs.declared.status.Status.TheVariants.{Limit, OutOfMemory}
+use Rattle.sc_app.specs.declared.status.Which.{Which}
+use Rattle.sc_app.specs.Statuses.{IsReportStatus}
+use Rattle.sc_app.specs.Told.{Checks, Told, limit_line}
+
+-- the sources of a folder pass a limit, and its line was written
+abbrev pub WritesLimit : Which → List FileOf → Option (List ℕ) → Option (List ℕ) → Type 0
+WritesLimit which fs before after = Checks fs (limit_line which) (Limit which) × AddsAll before (limit_line which) after
+
+-- the words and the files tell this status
+abbrev pub TellsStatus : List (List ℕ) → Status → List FileOf → Type 0
+TellsStatus words status fs = (bytes : List ℕ) × Told words fs bytes status
+
+-- a run came to the end of its report, by what the files tell where they are told; or memory was not found
+abbrev pub Completes : List (List ℕ) → Option (List FileOf) → Status → Type 0
+Completes words files status = (status ≡ OutOfMemory) ⊎ (IsReportStatus status × IfSome files (TellsStatus words status))

@@ -1,0 +1,49 @@
+-- What checking the sources of a folder comes to.
+use Rattle.std.specs.Prelude.{◌≡◌, ℕ, ◌<◌, List, length, map, Option, None, Some}
+use Rattle.std.specs.Arc.{arc_value}
+use Rattle.std.specs.declared.sync.Arc.{Arc}
+use Rattle.std.specs.declared.alloc.Global.{Global}
+use Rattle.jv_diag.specs.Plain.{DiagOf, diag_of}
+use Rattle.jv_layout.specs.Folder.{layout_of}
+use Rattle.jv_tree.specs.DeclTree.{UnitTree}
+use Rattle.jv_unit.specs.declared.folder.Folder.{Folder}
+use Rattle.jv_unit.specs.Kept.{folder_of, IsWhole}
+use Rattle.sc_io.specs.SourceFile.{sources_of}
+use Rattle.sc_io.specs.SourceTree.{FileOf}
+use Rattle.sc_report.specs.Report.{AreSorted}
+use Rattle.sc_sources.specs.Sources.{Outcome as SourceOutcome, ReadsFolder, faults_from}
+use Rattle.sc_app.specs.declared.outcome.Outcome.{Outcome}
+use Rattle.sc_app.specs.Diagnoses.{Diagnoses, HaveTrees}
+use Rattle.sc_app.specs.FolderRun.{JavaCore, IsFolderRun}
+
+-- some file has a fault
+abbrev pub HaveFault : List FileOf → Type 0
+HaveFault fs = (names : List (List ℕ)) × (xs : List SourceOutcome) × ReadsFolder (map (λ f. f.bytes) fs) names xs × (0 < length (faults_from 0 xs))
+
+-- a folder is that of the trees of files, and a core is that of a run of its checkers, which is over
+pub record RanOn (fs : List FileOf) (w : Folder) (c : JavaCore) : Type 0 where
+  pub names : List (List ℕ)
+  pub trees : List UnitTree
+  pub have : HaveTrees fs names trees
+  pub layout : w.layout ≡ layout_of names trees
+  pub names_are : w.names ≡ names
+  pub trees_are : (folder_of w).files ≡ trees
+  pub whole : IsWhole w
+  pub run : IsFolderRun (folder_of w) c
+
+-- where some file has a fault nothing ran
+abbrev pub IsRunOn : List FileOf → Option (Arc Folder Global) → Option JavaCore → Type 0
+IsRunOn fs None None = HaveFault fs
+IsRunOn fs (Some w) (Some c) = RanOn fs (arc_value w) c
+IsRunOn fs None (Some c) = ⊥
+IsRunOn fs (Some w) None = ⊥
+
+-- the diagnostics are those of the report, sorted, each once, beside how many files there are and how many types they declare; the files are handed back,
+-- with what ran
+pub record IsOutcomeOf (fs : List FileOf) (o : Outcome) : Type 0 where
+  pub sources : sources_of o.sources.items ≡ fs
+  pub files : o.files ≡ length fs
+  pub found : List DiagOf
+  pub diagnoses : Diagnoses fs found o.types
+  pub sorted : AreSorted found (map diag_of o.diags.items)
+  pub ran : IsRunOn fs o.folder o.core

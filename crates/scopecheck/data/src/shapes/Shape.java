@@ -1,0 +1,2 @@
+package shapes;
+public interface Shape { int SIDES = 4; int area(); }
