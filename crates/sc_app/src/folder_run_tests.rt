@@ -1,7 +1,7 @@
 //! Folders of sources, checked by their units on one thread in several orders: the diagnostics of headers, declarations and
 //! members, or who waits for what. The lines are written by hand from the rules in `docs/JAVA-PROFILE.md`.
 
-use crate::folder_run::{run_folder, share_folder};
+use crate::folder_run::{Shared, run_folder, share_folder};
 use crate::sources::{Files, laid_out, trees};
 use jv_diag::{Diag, DiagList, line};
 use jv_instance::{Java, labels};
@@ -18,8 +18,8 @@ pub fn served(alloc: Global, files: Files, order: &[u32]) -> Result<Core<Java, D
     let mut names = Names::new(alloc);
     let units = trees(alloc, files, &mut names)?;
     let layout = laid_out(alloc, &names, &units)?;
-    let shared = share_folder(alloc, layout, names, units)?;
-    Ok(run_folder(alloc, &shared.folder, shared.kinds, order)?)
+    let Shared { folder, kinds } = share_folder(alloc, layout, names, units)?;
+    Ok(run_folder(alloc, &folder, kinds, order)?)
 }
 
 /// The least diagnostic of a list behind another one, where there is one.
