@@ -1,5 +1,6 @@
 pub mod Example
 pub mod Law
+pub mod Progress
 pub mod Reading
 pub mod Replies
 pub mod Stop
