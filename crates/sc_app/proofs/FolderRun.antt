@@ -7,7 +7,7 @@ use Rattle.std.proofs.lemmas.List.{map-append}
 use Rattle.sg_query.specs.Query.{KindOf}
 use Rattle.sg_script.specs.Following.{FollowsPlan}
 use Rattle.sg_script.specs.Owing.{OwesEdge, OwesDatum, AsksIn, ComesTo}
-use Rattle.sg_serial.specs.Serial.{HasRun}
+use Rattle.sg_core.specs.Over.{HasRun}
 use Rattle.sg_state.specs.Held.{HeldOf}
 use Rattle.sg_state.specs.Opening.{IsSoundOpening, OpeningOf, opened_of}
 use Rattle.sg_unit.specs.Own.{own}

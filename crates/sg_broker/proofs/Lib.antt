@@ -1,2 +1,4 @@
+mod Joining
 mod Seats
+mod Sending
 mod Turning

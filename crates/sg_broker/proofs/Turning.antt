@@ -24,7 +24,7 @@ use Rattle.sg_broker.specs.Broker.{BrokerOf, SeatOf, IsAt, Adds, begun, root_of,
 abbrev pub seat_view : {I R D P : Type 0} → Known (Entry I R D P) (CoreOf I R D P) → ℕ → SeatOf I R D P
 seat_view t n = record { turn = t.turn; number = n; opening = (root_of t.root).opening; kinds = (root_of t.root).kinds; seen = t.seen; mine = t.mine; spent = t.spent }
 
-same_setting : {D P : Type 0} (wants : P → D → Bool) (same : D → D → Bool) (o p : HeldOf D) (k l : List KindOf) → o ≡ p → k ≡ l → setting_of wants same o k ≡ setting_of wants same p l
+pub same_setting : {D P : Type 0} (wants : P → D → Bool) (same : D → D → Bool) (o p : HeldOf D) (k l : List KindOf) → o ≡ p → k ≡ l → setting_of wants same o k ≡ setting_of wants same p l
 same_setting wants same o p k l a b = λ i. setting_of wants same (a i) (b i)
 
 module _ {I R D P : Type 0} (wants : P → D → Bool) (same : D → D → Bool) where

@@ -3,6 +3,7 @@ pub mod Core
 pub mod Ending
 pub mod Kept
 pub mod Law
+pub mod Over
 pub mod Searching
 pub mod Showing
 pub mod Woken

@@ -11,25 +11,14 @@ use Rattle.sg_unit.specs.declared.reply.Reply.{Reply}
 use Rattle.sg_unit.specs.Bound.{weight}
 use Rattle.sg_unit.specs.Own.{own}
 use Rattle.sg_unit.specs.Run.{Setting, RunOf, after, run_from}
-use Rattle.sg_unit.specs.Served.{SomeStands, IsHonestBy, IsServed}
+use Rattle.sg_unit.specs.Served.{IsServed}
 use Rattle.sg_unit.specs.Trace.{Past}
-use Rattle.sg_core.specs.declared.phase.Phase.TheVariants.{Ended, Stuck}
-use Rattle.sg_core.specs.Core.{CoreOf, IsCore, IsRunnable, IsLeastRunnable, IsPhase, setting, run}
+use Rattle.sg_core.specs.Core.{CoreOf, IsRunnable, IsLeastRunnable, setting, run}
 
 -- units whose fixed parts have these openings and kinds, and owe these edges, data, queries and results in each graph, and which have these
 -- numbers and fixed parts and stand for these traces
 module _ {I R D P V F : Type 0} (wants : P → D → Bool) (same : D → D → Bool) (opening_at : F → HeldOf D) (kinds_at : F → List KindOf) (edges : F → GraphOf D → Scope → ℕ → Scope → Type 0) (data_at : F → GraphOf D → Scope → D → Type 0) (asks : F → GraphOf D → Query P → Type 0) (result : F → GraphOf D → R → Type 0)
     (number : V → ℕ) (fixed : V → F) (stands : V → Past I R D P → Option (Op I R D P) → Type 0) where
-  -- the core's run is over: it goes on from the opening and the kinds of the old core, is legal, and has ended or is stuck; and for each unit that
-  -- was given, some unit with its number and its fixed part stands for its entries, by which it is honest
-  pub record HasRun (old : CoreOf I R D P) (units : List V) (c : CoreOf I R D P) : Type 0 where
-    pub opening : c.opening ≡ old.opening
-    pub kinds : c.kinds ≡ old.kinds
-    pub core : IsCore wants same c
-    pub over : IsPhase (run wants same c) Ended ⊎ IsPhase (run wants same c) Stuck
-    pub each : (u : ℕ) (w : V) → slice_get units u ≡ Some w → SomeStands number fixed stands (own u c.log) u (fixed w)
-    pub honest : (u : ℕ) (w : V) → slice_get units u ≡ Some w → IsHonestBy wants same opening_at kinds_at edges data_at asks result (own u c.log) u (fixed w)
-
   -- while it runs, each unit of the list is one that was given, and is served
   pub record IsTeam (start units : List V) (replies : List (Option (Reply I D P))) (c : CoreOf I R D P) : Type 0 where
     pub started : length start ≡ length c.opening.made

@@ -1,6 +1,7 @@
 ghost use Rattle.std.specs.Prelude.{◌≡◌, [], List, IfOk};
 ghost use Rattle.sg_core.specs.Core.{IsCore, run};
-ghost use Rattle.sg_serial.specs.Serial.{HasRun, IsTeam, GoesOnFrom, IsServedBy, StepsIfRunnable};
+ghost use Rattle.sg_core.specs.Over.{HasRun};
+ghost use Rattle.sg_serial.specs.Serial.{IsTeam, GoesOnFrom, IsServedBy, StepsIfRunnable};
 ghost use Rattle.sg_serial.specs.Replies.{AreNone};
 ghost use Rattle.sg_unit.specs.Served.{AreNew};
 

@@ -7,6 +7,9 @@ ghost use Rattle.sg_script.specs.Following.{FollowsPlan};
 ghost use Rattle.sg_small.specs.Reader.{IsNewReader, reader_plan};
 ghost use Rattle.sg_state.specs.Opening.{opened_of, opening_of};
 
+mod link;
+mod linked;
+
 use crate::{Numbers, Reader};
 use sg_base::{Graph, Label, Scope};
 use sg_core::{Core, Phase};

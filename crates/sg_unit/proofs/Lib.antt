@@ -4,6 +4,7 @@ pub mod Ended
 pub mod Examples
 pub mod Falling
 pub mod Growing
+pub mod Halting
 pub mod Honesty
 pub mod Lonely
 pub mod Pasts

@@ -22,7 +22,7 @@ use Rattle.sg_unit.specs.Bound.{item_bound, weight}
 use Rattle.sg_unit.specs.Example.{corner, corner_query, lonely_setting, lonely_log, pair, pair_setting, pair_log}
 use Rattle.sg_unit.specs.Honest.{AnswersAsTold, GivesResults, IsHonest}
 use Rattle.sg_unit.specs.Own.{own, KnowsScope, MayBy, Uses, CanReply, IsOwnRun}
-use Rattle.sg_unit.specs.Run.{Setting, ready_ask, asked_by, NoAsk, after, run_of}
+use Rattle.sg_unit.specs.Run.{Setting, units_of, ready_ask, asked_by, NoAsk, after, run_of}
 use Rattle.sg_unit.specs.Step.{May, IsStep, IsRun, asks, taken}
 use Rattle.sg_unit.specs.Trace.{Past, with_last, handed, told_after, told, MayGive, IsHanded}
 use Rattle.sg_unit.specs.Waiting.{IsHeldUp, IsShown, IsStuck, IsWoken}
@@ -124,6 +124,28 @@ AsksFall I R D P =
     (z : Setting D P) (log : List (Entry I R D P)) (u : ℕ) (op : Op I R D P) (y : Reply I D P) → IsOpening z.opening → IsRun z log → IsStep z (run_of z log) (record { unit = u; op = op; reply = y })
     → (run_of z log).waits u ≡ false → ((op ≡ Advance) ⊎ (op ≡ Take))
     → (weight z (after (run_of z log) (record { unit = u; op = op; reply = y })) u < weight z (run_of z log) u) × ((v : ℕ) → v ≢ u → weight z (after (run_of z log) (record { unit = u; op = op; reply = y })) v ≡ weight z (run_of z log) v)
+
+-- ---- when a run is over
+
+-- a stuck run stays stuck: each later entry is an advance, and is answered that every live unit waits
+abbrev pub StuckRunsStayStuck : Type 0 → Type 0 → Type 0 → Type 0 → Type 0
+StuckRunsStayStuck I R D P =
+    (z : Setting D P) (log more : List (Entry I R D P)) → IsOpening z.opening → IsRun z (log ++ more) → IsStuck (run_of z log)
+    → IsStuck (run_of z (log ++ more)) × ((e : Entry I R D P) → Contains more e → (e.op ≡ Advance) × (e.reply ≡ Stuck))
+
+-- a run is stuck where some entry was answered that every live unit waits
+abbrev pub StuckIsTold : Type 0 → Type 0 → Type 0 → Type 0 → Type 0
+StuckIsTold I R D P = (z : Setting D P) (log : List (Entry I R D P)) (e : Entry I R D P) → IsOpening z.opening → IsRun z log → Contains log e → e.reply ≡ Stuck → IsStuck (run_of z log)
+
+-- a unit has ended in a run where it has ended by its own entries, and is live where it is live by them
+abbrev pub OwnEntriesEnd : Type 0 → Type 0 → Type 0 → Type 0 → Type 0
+OwnEntriesEnd I R D P = (z : Setting D P) (log : List (Entry I R D P)) (u : ℕ) → (run_of z log).live u ≡ (run_of z (own u log)).live u
+
+-- no unit is live where each one of the opening has ended by its own entries
+abbrev pub EndIsTold : Type 0 → Type 0 → Type 0 → Type 0 → Type 0
+EndIsTold I R D P =
+    (z : Setting D P) (log : List (Entry I R D P)) → IsOpening z.opening → IsRun z log → ((u : ℕ) → u < units_of z → (run_of z (own u log)).live u ≡ false)
+    → (u : ℕ) → IsTrue ((run_of z log).live u) → ⊥
 
 -- ---- that there are such runs
 

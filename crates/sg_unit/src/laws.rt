@@ -1,6 +1,6 @@
 //! Laws of runs, each the contract of a function that does nothing.
 
-ghost use Rattle.sg_unit.specs.Law.{StatesFollow, AnswersLast, OwnEntriesAllow, RunsAllow, OwnEntriesRun, OwnEntriesReply, TracesAllow, TracesHand, TracesTell, RunsGrow, RunsHold, OwnRunsGrow, TracesGrow, WaitersAreHeldUp, StuckUnitsAreHeldUp, ShownHoldersWait, ItemsAreFew, AsksFall, EndedUnitsAskNothing, EndedUnitsTook, NewUnitsAreHonest, CallsKeepHonest, SomeGetStuck, LonelyUnitsGetStuck, AskersDoNotEnd, HoldersAloneAdd, WaitersAreWoken, AnswersAreHanded};
+ghost use Rattle.sg_unit.specs.Law.{StatesFollow, AnswersLast, OwnEntriesAllow, RunsAllow, OwnEntriesRun, OwnEntriesReply, TracesAllow, TracesHand, TracesTell, RunsGrow, RunsHold, OwnRunsGrow, TracesGrow, WaitersAreHeldUp, StuckUnitsAreHeldUp, ShownHoldersWait, ItemsAreFew, AsksFall, StuckRunsStayStuck, StuckIsTold, OwnEntriesEnd, EndIsTold, EndedUnitsAskNothing, EndedUnitsTook, NewUnitsAreHonest, CallsKeepHonest, SomeGetStuck, LonelyUnitsGetStuck, AskersDoNotEnd, HoldersAloneAdd, WaitersAreWoken, AnswersAreHanded};
 
 use crate::unit::Unit;
 use sg_base::Instance;
@@ -52,6 +52,16 @@ pub fn traces_tell<I: Instance, R>()
 pub fn asks_fall<I: Instance, R>()
     ensures items { ItemsAreFew I.Datum }
     ensures fall { AsksFall I R I.Datum I.Pred }
+{}
+
+/// Whether a run is over, the entries of its units tell: it is stuck from the first entry on whose reply is that every live
+/// unit waits, and each later one is an advance with that reply; a unit has ended where it has ended by its own entries; and
+/// where each has, no unit is live.
+pub fn ends_are_told<I: Instance, R>()
+    ensures stay { StuckRunsStayStuck I R I.Datum I.Pred }
+    ensures stuck { StuckIsTold I R I.Datum I.Pred }
+    ensures own { OwnEntriesEnd I R I.Datum I.Pred }
+    ensures ended { EndIsTold I R I.Datum I.Pred }
 {}
 
 /// A unit that has ended asks nothing, and each of its asks was followed by its take.
