@@ -1,0 +1,3 @@
+mod Classes
+mod Rising
+mod Folders

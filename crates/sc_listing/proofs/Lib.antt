@@ -1,0 +1,7 @@
+mod Rows
+mod Looping
+mod Hearing
+mod LineOrder
+mod OwnEntries
+mod UnitTexts
+mod OneText
