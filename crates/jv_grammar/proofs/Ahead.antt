@@ -70,7 +70,7 @@ unfolding name_of
 beyond_call i args_none = refl
 beyond_call i (args_some d) = refl
 
-beyond_head : {f : Form} {e : ExprTree} {xs ys : List Terminal} → DerivesHead f e xs ys → Beyond xs ys
+pub beyond_head : {f : Form} {e : ExprTree} {xs ys : List Terminal} → DerivesHead f e xs ys → Beyond xs ys
 unfolding name_of
 beyond_head head_literal = inl refl
 beyond_head head_this = inl refl
@@ -83,7 +83,7 @@ beyond_head (head_new m a) = inl refl
 beyond_head (head_new_array m d h) = inl refl
 beyond_head (head_new_list m q l) = inl refl
 
-beyond_primary : {f : Form} {e : ExprTree} {xs ys : List Terminal} → DerivesPrimary f e xs ys → Beyond xs ys
+pub beyond_primary : {f : Form} {e : ExprTree} {xs ys : List Terminal} → DerivesPrimary f e xs ys → Beyond xs ys
 beyond_primary (primary_head d) = beyond_head d
 beyond_primary (primary_field d h) = inl (settle _ _ (beyond_primary d) refl refl)
 beyond_primary (primary_call d a) = inl (settle _ _ (beyond_primary d) refl refl)
@@ -93,16 +93,16 @@ beyond_primary (primary_index {zs} d x) = inl (settle _ _ (beyond_primary d) ref
 no_bracket : (p o : ℕ) (ys : List Terminal) → nat_eq o bracket_open ≡ false → starts_pair (Punct p o ∷ ys) ≡ false
 no_bracket p o ys h = rw h refl
 
-beyond_post : {f : Form} {e : ExprTree} {xs ys : List Terminal} → DerivesPost f e xs ys → Beyond xs ys
+pub beyond_post : {f : Form} {e : ExprTree} {xs ys : List Terminal} → DerivesPost f e xs ys → Beyond xs ys
 beyond_post (post_primary d) = beyond_primary d
 beyond_post (post_step {p} {o} {ys} d h) = inl (settle _ _ (beyond_post d) refl (no_bracket p o ys (among (λ n. nat_eq n bracket_open ≡ false) postfix_operators o (refl, (refl, tt)) h)))
 
-beyond_cast : {e : ExprTree} {xs ys : List Terminal} → DerivesCast e xs ys → IsFree xs
+pub beyond_cast : {e : ExprTree} {xs ys : List Terminal} → DerivesCast e xs ys → IsFree xs
 unfolding name_of
 beyond_cast (cast_prim m d) = refl
 beyond_cast (cast_reference m d) = refl
 
-beyond_unary : {f : Form} {e : ExprTree} {xs ys : List Terminal} → DerivesUnary f e xs ys → Beyond xs ys
+pub beyond_unary : {f : Form} {e : ExprTree} {xs ys : List Terminal} → DerivesUnary f e xs ys → Beyond xs ys
 unfolding name_of
 beyond_unary (unary_sign h d) = inl refl
 beyond_unary (unary_step h d) = inl refl
@@ -120,28 +120,28 @@ pub links_rank : {level : List ℕ} {tighter : List (List ℕ)} {ls : LinkTrees}
 links_rank k r (links_one d) = link_rank k r d
 links_rank k r (links_more d l) = link_rank k r d
 
-link_no_ident : {level : List ℕ} {tighter : List (List ℕ)} {p o : ℕ} {x : OperandTree} {xs ys : List Terminal} → DerivesLink level tighter p o x xs ys → starts_ident xs ≡ false
+pub link_no_ident : {level : List ℕ} {tighter : List (List ℕ)} {p o : ℕ} {x : OperandTree} {xs ys : List Terminal} → DerivesLink level tighter p o x xs ys → starts_ident xs ≡ false
 link_no_ident (link_operand h d) = refl
 link_no_ident (link_type h d) = refl
 
-links_no_ident : {level : List ℕ} {tighter : List (List ℕ)} {ls : LinkTrees} {xs ys : List Terminal} → DerivesLinks level tighter ls xs ys → starts_ident xs ≡ false
+pub links_no_ident : {level : List ℕ} {tighter : List (List ℕ)} {ls : LinkTrees} {xs ys : List Terminal} → DerivesLinks level tighter ls xs ys → starts_ident xs ≡ false
 links_no_ident (links_one d) = link_no_ident d
 links_no_ident (links_more d l) = link_no_ident d
 
 pub no_pair : (ys : List Terminal) → 0 < first_rank ys → starts_pair ys ≡ false
 no_pair ys h = rw (starts_apart bracket_open ys h) refl
 
-beyond_bin : {levels : List (List ℕ)} {f : Form} {e : ExprTree} {xs ys : List Terminal} → IsRanked levels → DerivesBin levels f e xs ys → Beyond xs ys
+pub beyond_bin : {levels : List (List ℕ)} {f : Form} {e : ExprTree} {xs ys : List Terminal} → IsRanked levels → DerivesBin levels f e xs ys → Beyond xs ys
 beyond_bin r (bin_unary d) = beyond_unary d
 beyond_bin r (bin_one d) = beyond_bin r.1 d
 beyond_bin r (bin_chain {zs} d l) =
     inl (settle _ _ (beyond_bin r.1 d) (links_no_ident l) (no_pair zs (let k = links_rank _ r.0 l in omega (arith, k))))
 
-beyond_cond : {f : Form} {e : ExprTree} {xs ys : List Terminal} → DerivesCond f e xs ys → Beyond xs ys
+pub beyond_cond : {f : Form} {e : ExprTree} {xs ys : List Terminal} → DerivesCond f e xs ys → Beyond xs ys
 beyond_cond (cond_bin d) = beyond_bin levels_ranked d
 beyond_cond (cond_choice d a b) = inl (settle _ _ (beyond_bin levels_ranked d) refl refl)
 
-beyond_expr : {f : Form} {e : ExprTree} {xs ys : List Terminal} → DerivesExpr f e xs ys → Beyond xs ys
+pub beyond_expr : {f : Form} {e : ExprTree} {xs ys : List Terminal} → DerivesExpr f e xs ys → Beyond xs ys
 beyond_expr (expr_assign {p} {o} {zs} d h r) = inl (settle _ _ (beyond_primary d) refl (no_pair (Punct p o ∷ zs) (let k = ranked 12 assignment_operators o assignments_ranked h in omega (arith, k))))
 beyond_expr (expr_cond d) = beyond_cond d
 
@@ -155,7 +155,7 @@ no_prim k h = among (λ n. is_prim (prim_of n) ≡ false) (word_this ∷ word_su
     in_list false false true h' = refl
     in_list false false false h' = h'
 
-free_declares : (xs : List Terminal) → IsStart xs → IsFree xs → declares xs ≡ false
+pub free_declares : (xs : List Terminal) → IsStart xs → IsFree xs → declares xs ≡ false
 unfolding declares
 free_declares [] s h = refl
 free_declares (Ident i ∷ xs) s h = h
@@ -167,14 +167,14 @@ pub no_declares : {f : Form} {e : ExprTree} {xs ys : List Terminal} → DerivesE
 no_declares {xs} {ys} d r h = free_declares xs (start_expr d) (settle xs ys (beyond_expr d) h (no_pair ys r))
 
 -- a name with its type's brackets and an identifier behind it begins a declaration
-prim_declares : {p : ℕ} {b : BaseTree} {xs ys : List Terminal} → DerivesPrim p b xs ys → declares xs ≡ true
+pub prim_declares : {p : ℕ} {b : BaseTree} {xs ys : List Terminal} → DerivesPrim p b xs ys → declares xs ≡ true
 unfolding declares
 prim_declares prim_boolean = refl
 prim_declares prim_char = refl
 prim_declares prim_int = refl
 prim_declares prim_long = refl
 
-name_declares : {ids : List Identifier} {xs ys : List Terminal} → DerivesName ids xs ys → is_declared (name_of xs) ≡ true → declares xs ≡ true
+pub name_declares : {ids : List Identifier} {xs ys : List Terminal} → DerivesName ids xs ys → is_declared (name_of xs) ≡ true → declares xs ≡ true
 unfolding declares
 name_declares name_one h = h
 name_declares (name_more d) h = h
@@ -197,7 +197,7 @@ prim_cast prim_char = refl
 prim_cast prim_int = refl
 prim_cast prim_long = refl
 
-name_cast : {ids : List Identifier} {xs ys : List Terminal} → DerivesName ids xs ys → is_cast (name_of xs) ≡ true → cast_ahead xs ≡ true
+pub name_cast : {ids : List Identifier} {xs ys : List Terminal} → DerivesName ids xs ys → is_cast (name_of xs) ≡ true → cast_ahead xs ≡ true
 unfolding cast_ahead
 name_cast name_one h = h
 name_cast (name_more d) h = h
@@ -221,7 +221,7 @@ name_is_cast xs (Ok r) n f h =
           (r.0, m.0, rest_of r.1, subst (DerivesName r.0 xs) m.1 (derives_name xs r n), both_hold.1))
     ]
 
-ahead_free : (xs : List Terminal) → IsStart xs → IsFree xs → (IsCast xs → ⊥) → cast_ahead xs ≡ false
+pub ahead_free : (xs : List Terminal) → IsStart xs → IsFree xs → (IsCast xs → ⊥) → cast_ahead xs ≡ false
 unfolding cast_ahead
 ahead_free [] s f n = refl
 ahead_free (Ident i ∷ xs) s f n = by (is_cast (name_of (Ident i ∷ xs))) refl

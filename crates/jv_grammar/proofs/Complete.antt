@@ -56,11 +56,11 @@ pub record Comp (n : ℕ) (b : Below) : Type 0 where
   pub init : {i : InitTree} {xs ys : List Terminal} (d : DerivesInit i xs ys) → deep_init d < n → wide_init d ≤ 200 → 12 < first_rank ys → b.init xs ≡ got_init i ys
 
 -- what parts begin with
-args_open : {es : ExprTrees} {xs ys : List Terminal} → DerivesArgs es xs ys → (starts paren_open xs ≡ true) × (starts dot xs ≡ false)
+pub args_open : {es : ExprTrees} {xs ys : List Terminal} → DerivesArgs es xs ys → (starts paren_open xs ≡ true) × (starts dot xs ≡ false)
 args_open args_none = (refl, refl)
 args_open (args_some d) = (refl, refl)
 
-dims_open : {es : ExprTrees} {n : ℕ} {xs ys : List Terminal} → DerivesDims es n xs ys → (starts dot xs ≡ false) × (starts paren_open xs ≡ false) × (starts_pair xs ≡ false) × (starts bracket_open xs ≡ true)
+pub dims_open : {es : ExprTrees} {n : ℕ} {xs ys : List Terminal} → DerivesDims es n xs ys → (starts dot xs ≡ false) × (starts paren_open xs ≡ false) × (starts_pair xs ≡ false) × (starts bracket_open xs ≡ true)
 dims_open (dims_one {xs} d q) = (refl, refl, not_starts bracket_close xs refl (start_expr d), refl)
 dims_open (dims_more {xs} d r) = (refl, refl, not_starts bracket_close xs refl (start_expr d), refl)
 
@@ -90,10 +90,10 @@ unary_plain (plain_sign {o} h d) = (unary_sign (among (λ n. IsOneOf signs n) co
 unary_plain (plain_cast d) = (unary_cast d, refl, refl)
 unary_plain (plain_post d) = (unary_post d, refl, refl)
 
-sign_no_step : (o : ℕ) → IsOneOf signs o → list_any (nat_eq o) postfix_operators ≡ false
+pub sign_no_step : (o : ℕ) → IsOneOf signs o → list_any (nat_eq o) postfix_operators ≡ false
 sign_no_step o h = among (λ n. list_any (nat_eq n) postfix_operators ≡ false) signs o (refl, (refl, (refl, (refl, tt)))) h
 
-mark_seen : (level : List ℕ) (o : ℕ) → IsMarkOf level o → is_mark_of level o ≡ true
+pub mark_seen : (level : List ℕ) (o : ℕ) → IsMarkOf level o → is_mark_of level o ≡ true
 mark_seen level o h =
     let no : nat_eq o instance_of ≡ false = apart (λ n. nat_eq n instance_of) o (λ e. h.1 (eqb-true o instance_of e)) in
     rw (h.0, no) refl

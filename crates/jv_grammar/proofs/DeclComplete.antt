@@ -153,19 +153,19 @@ typed_method : (i : Bool) (n : ℕ) (ks : List ℕ) {r : TypeTree} {j : Identifi
 unfolding typed_of
 typed_method i n ks d w h = rw (reads_ty d w refl refl) (rw h refl)
 
-plain_method : (i : Bool) (n : ℕ) (ks : List ℕ) {r : TypeTree} {j : Identifier} {xs ys : List Terminal} (d : DerivesResult r xs (Ident j ∷ ys)) → wide_result d ≤ 200 → starts paren_open ys ≡ true → plain_of i n ks xs ≡ method_of i n ks r (Ident j ∷ ys)
+pub plain_method : (i : Bool) (n : ℕ) (ks : List ℕ) {r : TypeTree} {j : Identifier} {xs ys : List Terminal} (d : DerivesResult r xs (Ident j ∷ ys)) → wide_result d ≤ 200 → starts paren_open ys ≡ true → plain_of i n ks xs ≡ method_of i n ks r (Ident j ∷ ys)
 unfolding plain_of
 plain_method i n ks (result_ty d) w h = ty_plain i n ks d ∙ typed_method i n ks d w h
 plain_method i n ks result_void w h = refl
 
 -- the braces of a constructor
-call_none : (n : ℕ) (xs : List Terminal) → calls_super xs ≡ false → call_of n xs ≡ Ok (None, xs)
+pub call_none : (n : ℕ) (xs : List Terminal) → calls_super xs ≡ false → call_of n xs ≡ Ok (None, xs)
 unfolding call_of
 call_none n [] h = refl
 call_none n (Keyword p k ∷ xs) h = rw h refl
 call_none n (x ∷ xs) h = refl
 
-args_first : {es : ExprTrees} {xs ys : List Terminal} → DerivesArgs es xs ys → starts paren_open xs ≡ true
+pub args_first : {es : ExprTrees} {xs ys : List Terminal} → DerivesArgs es xs ys → starts paren_open xs ≡ true
 args_first args_none = refl
 args_first (args_some d) = refl
 
@@ -202,7 +202,7 @@ module _ (n : ℕ) (nest : BelowType) (c : CompType n nest) where
       rw (reads_mods m s.0) (behind_type i ks x zs ys s.1 (c.interfaces d h w))
 
   -- what is no type and no constructor
-  behind_plain : (i : Bool) (ks : List ℕ) (xs : List Terminal) → begins_type xs ≡ false → calls xs ≡ false → behind_mods i n nest ks xs ≡ plain_of i n ks xs
+  pub behind_plain : (i : Bool) (ks : List ℕ) (xs : List Terminal) → begins_type xs ≡ false → calls xs ≡ false → behind_mods i n nest ks xs ≡ plain_of i n ks xs
   unfolding behind_mods
   behind_plain true ks xs s h = rw s refl
   behind_plain false ks xs s h = rw (s, h) refl
@@ -318,19 +318,19 @@ name_no_star : {ids : List Identifier} {xs ys : List Terminal} → DerivesName i
 name_no_star name_one = refl
 name_no_star (name_more d) = refl
 
-path_one : {ids : List Identifier} {xs ys : List Terminal} → DerivesName ids xs ys → (k : ℕ) → starts dot ys ≡ false → length xs ≤ k → path_of k xs ≡ got_import (record { name = ids; all = false }) ys
+pub path_one : {ids : List Identifier} {xs ys : List Terminal} → DerivesName ids xs ys → (k : ℕ) → starts dot ys ≡ false → length xs ≤ k → path_of k xs ≡ got_import (record { name = ids; all = false }) ys
 unfolding path_of
 path_one d zero h l = absurd (omega (arith, less_name d))
 path_one name_one (suc k) h l = rw h refl
 path_one (name_more d) (suc k) h l = rw (name_no_star d) (rw (path_one d k h (omega arith)) refl)
 
-path_all : {ids : List Identifier} {p q : ℕ} {xs ys : List Terminal} → DerivesName ids xs (Punct p dot ∷ Punct q star ∷ ys) → (k : ℕ) → length xs ≤ k → path_of k xs ≡ got_import (record { name = ids; all = true }) ys
+pub path_all : {ids : List Identifier} {p q : ℕ} {xs ys : List Terminal} → DerivesName ids xs (Punct p dot ∷ Punct q star ∷ ys) → (k : ℕ) → length xs ≤ k → path_of k xs ≡ got_import (record { name = ids; all = true }) ys
 unfolding path_of
 path_all d zero l = absurd (omega (arith, less_name d))
 path_all name_one (suc k) l = refl
 path_all (name_more d) (suc k) l = rw (name_no_star d) (rw (path_all d k (omega arith)) refl)
 
-import_turn : (c : ℕ) {x : ImportTree} {xs ys : List Terminal} → DerivesImport x xs ys → imports_of (suc c) xs ≡ (imports_of c ys >>= λ s. Ok (x ∷ s.0, s.1))
+pub import_turn : (c : ℕ) {x : ImportTree} {xs ys : List Terminal} → DerivesImport x xs ys → imports_of (suc c) xs ≡ (imports_of c ys >>= λ s. Ok (x ∷ s.0, s.1))
 unfolding imports_of import_of
 import_turn c (import_one {xs} d) = rw (path_one d (length xs) refl (omega arith)) refl
 import_turn c (import_all {xs} d) = rw (path_all d (length xs) (omega arith)) refl
@@ -342,13 +342,13 @@ reads_imports imports_none (suc k) h l = rw h refl
 reads_imports (imports_more d r) (suc k) h l = import_turn k d ∙ rw (reads_imports r k h (omega (arith, less_import d))) refl
 
 -- types begin with no `package` and no `import`, and imports with no `package`
-types_no_word : {ts : List TypeDeclTree} {xs : List Terminal} → DerivesTypes ts xs [] → (starts_word word_package xs ≡ false) × (starts_word word_import xs ≡ false)
+pub types_no_word : {ts : List TypeDeclTree} {xs : List Terminal} → DerivesTypes ts xs [] → (starts_word word_package xs ≡ false) × (starts_word word_import xs ≡ false)
 types_no_word types_none = (refl, refl)
 types_no_word (types_more d r) =
     (type_no_word word_package (refl, (refl, (refl, (refl, (refl, (refl, tt)))))) refl refl d, type_no_word word_import (refl, (refl, (refl, (refl, (refl, (refl, tt)))))) refl refl d)
 types_no_word (types_empty r) = (refl, refl)
 
-imports_no_package : {is : List ImportTree} {xs ys : List Terminal} → DerivesImports is xs ys → starts_word word_package ys ≡ false → starts_word word_package xs ≡ false
+pub imports_no_package : {is : List ImportTree} {xs ys : List Terminal} → DerivesImports is xs ys → starts_word word_package ys ≡ false → starts_word word_package xs ≡ false
 imports_no_package imports_none h = h
 imports_no_package (imports_more (import_one d) r) h = refl
 imports_no_package (imports_more (import_all d) r) h = refl

@@ -24,11 +24,11 @@ flat : (p o : ℕ) {xs ys : List Terminal} → IsFlat o → IsClosed xs ys → I
 flat p o f c = terminal f.0 f.1 c
 
 -- no operator of the levels is a bracket
-abbrev AreFlat : List (List ℕ) → Type 0
+abbrev pub AreFlat : List (List ℕ) → Type 0
 AreFlat [] = Unit {0}
 AreFlat (level ∷ tighter) = Each IsFlat level × AreFlat tighter
 
-levels_flat : AreFlat levels
+pub levels_flat : AreFlat levels
 levels_flat = (((refl, refl), tt), (((refl, refl), tt), (((refl, refl), tt), (((refl, refl), tt), (((refl, refl), tt), (((refl, refl), ((refl, refl), tt)), (((refl, refl), ((refl, refl), ((refl, refl), ((refl, refl), ((refl, refl), tt))))), (((refl, refl), ((refl, refl), ((refl, refl), tt))), (((refl, refl), ((refl, refl), tt)), (((refl, refl), ((refl, refl), ((refl, refl), tt))), tt))))))))))
 
 assignments_flat : Each IsFlat assignment_operators
@@ -164,11 +164,11 @@ mutual
   closed_inits (inits_one d) = closed_init d
   closed_inits (inits_more d r) = closed_trans (closed_init d) (terminal refl refl (closed_inits r))
 
-pairs_begin : {n : ℕ} {xs ys : List Terminal} → DerivesPairs n xs ys → BeginsWithPairs n xs
+pub pairs_begin : {n : ℕ} {xs ys : List Terminal} → DerivesPairs n xs ys → BeginsWithPairs n xs
 pairs_begin pairs_none = none
 pairs_begin (pairs_more d) = pair nothing (pairs_begin d)
 
-dims_begin : {es : ExprTrees} {n : ℕ} {xs ys : List Terminal} (d : DerivesDims es n xs ys) → BeginsWithPairs (count_dims d) xs
+pub dims_begin : {es : ExprTrees} {n : ℕ} {xs ys : List Terminal} (d : DerivesDims es n xs ys) → BeginsWithPairs (count_dims d) xs
 dims_begin (dims_one d q) = pair (closed_expr d) (pairs_begin q)
 dims_begin (dims_more d r) = pair (closed_expr d) (dims_begin r)
 

@@ -22,46 +22,46 @@ abbrev pub IsFree : Option Terminal → Type 0
 IsFree before = is_there ends_operand before ≡ false
 
 -- a mark that is no bracket, no `,`, no `;` and ends no operand
-abbrev IsQuiet : ℕ → Type 0
+abbrev pub IsQuiet : ℕ → Type 0
 IsQuiet o = (is_quiet (Punct 0 o) ≡ true) × IsFree (Some (Punct 0 o))
 
-abbrev AreQuiet : List (List ℕ) → Type 0
+abbrev pub AreQuiet : List (List ℕ) → Type 0
 AreQuiet [] = Unit {0}
 AreQuiet (level ∷ tighter) = Each IsQuiet level × AreQuiet tighter
 
-levels_quiet : AreQuiet levels
+pub levels_quiet : AreQuiet levels
 levels_quiet = (((refl, refl), tt), (((refl, refl), tt), (((refl, refl), tt), (((refl, refl), tt), (((refl, refl), tt), (((refl, refl), ((refl, refl), tt)), (((refl, refl), ((refl, refl), ((refl, refl), ((refl, refl), ((refl, refl), tt))))), (((refl, refl), ((refl, refl), ((refl, refl), tt))), (((refl, refl), ((refl, refl), tt)), (((refl, refl), ((refl, refl), ((refl, refl), tt))), tt))))))))))
 
 -- a mark that is a chain token wherever it stands
-abbrev IsChained : ℕ → Type 0
+abbrev pub IsChained : ℕ → Type 0
 IsChained o = IsQuiet o × (is_chain_mark (Punct 0 o) ≡ true)
 
-assignments_chained : Each IsChained assignment_operators
+pub assignments_chained : Each IsChained assignment_operators
 assignments_chained = (((refl, refl), refl), (((refl, refl), refl), (((refl, refl), refl), (((refl, refl), refl), (((refl, refl), refl), (((refl, refl), refl), (((refl, refl), refl), (((refl, refl), refl), (((refl, refl), refl), (((refl, refl), refl), (((refl, refl), refl), (((refl, refl), refl), tt))))))))))))
 
-steps_chained : Each IsChained postfix_operators
+pub steps_chained : Each IsChained postfix_operators
 steps_chained = (((refl, refl), refl), (((refl, refl), refl), tt))
 
-complements_chained : Each IsChained complements
+pub complements_chained : Each IsChained complements
 complements_chained = (((refl, refl), refl), (((refl, refl), refl), tt))
 
-a_chain : (a b c d e f : Bool) → a ≡ true → a || b || c || d || e || f ≡ true
+pub a_chain : (a b c d e f : Bool) → a ≡ true → a || b || c || d || e || f ≡ true
 a_chain true b c d e f h = refl
 a_chain false b c d e f h = absurd (true≢false (sym h))
 
-chained : {most : ℕ} {ends : Bool} {b : Option Terminal} {k : ℕ} {ts us : List Terminal} (p o : ℕ) → IsChained o → Nests most ends (Some (Punct p o)) k ts us → Nests most ends b (k + 2) (Punct p o ∷ ts) us
+pub chained : {most : ℕ} {ends : Bool} {b : Option Terminal} {k : ℕ} {ts us : List Terminal} (p o : ℕ) → IsChained o → Nests most ends (Some (Punct p o)) k ts us → Nests most ends b (k + 2) (Punct p o ∷ ts) us
 chained p o c s = chain c.0.0 (a_chain (is_chain_mark (Punct p o)) _ _ _ _ _ c.1) s
 
 -- a sign is a chain token behind what ends no operand
-record IsSign (o : ℕ) : Type 0 where
-  quiet : IsQuiet o
-  chains : (before : Option Terminal) (behind : Option Terminal) → IsFree before → is_chain before (Punct 0 o) behind ≡ true
+pub record IsSign (o : ℕ) : Type 0 where
+  pub quiet : IsQuiet o
+  pub chains : (before : Option Terminal) (behind : Option Terminal) → IsFree before → is_chain before (Punct 0 o) behind ≡ true
 
 no_operand : (a : Bool) → a ≡ false → not a || false || false ≡ true
 no_operand true h = absurd (true≢false h)
 no_operand false h = refl
 
-signs_are : Each IsSign signs
+pub signs_are : Each IsSign signs
 signs_are = (record { quiet = (refl, refl); chains = λ b c h. no_operand (is_there ends_operand b) h }, (record { quiet = (refl, refl); chains = λ b c h. no_operand (is_there ends_operand b) h }, (record { quiet = (refl, refl); chains = λ b c h. refl }, (record { quiet = (refl, refl); chains = λ b c h. refl }, tt))))
 
 -- what begins a `plain` follows a cast
@@ -71,7 +71,7 @@ mark_follows false true c h = refl
 mark_follows false false true h = refl
 mark_follows false false false h = h
 
-plain_follows : (xs : List Terminal) → begins_plain xs ≡ true → is_there follows_cast (first xs) ≡ true
+pub plain_follows : (xs : List Terminal) → begins_plain xs ≡ true → is_there follows_cast (first xs) ≡ true
 plain_follows [] h = h
 plain_follows (Ident i ∷ xs) h = refl
 plain_follows (Keyword p k ∷ xs) h = h
@@ -97,20 +97,20 @@ pub nests_pairs : {most : ℕ} {b : Option Terminal} {n : ℕ} {xs ys : List Ter
 nests_pairs pairs_none = done
 nests_pairs (pairs_more d) = eased (square (part done) (nests_pairs d)) (omega arith)
 
-nests_prim : {most : ℕ} {b : Option Terminal} {p : ℕ} {t : BaseTree} {xs ys : List Terminal} → DerivesPrim p t xs ys → Nests most false b 1 xs ys
+pub nests_prim : {most : ℕ} {b : Option Terminal} {p : ℕ} {t : BaseTree} {xs ys : List Terminal} → DerivesPrim p t xs ys → Nests most false b 1 xs ys
 nests_prim prim_boolean = flat refl done
 nests_prim prim_char = flat refl done
 nests_prim prim_int = flat refl done
 nests_prim prim_long = flat refl done
 
-nests_base : {most : ℕ} {b : Option Terminal} {p : ℕ} {t : BaseTree} {xs ys : List Terminal} → DerivesBase p t xs ys → Nests most false b 1 xs ys
+pub nests_base : {most : ℕ} {b : Option Terminal} {p : ℕ} {t : BaseTree} {xs ys : List Terminal} → DerivesBase p t xs ys → Nests most false b 1 xs ys
 nests_base (base_prim d) = nests_prim d
 nests_base (base_name d) = nests_name d
 
 pub nests_ty : {most : ℕ} {b : Option Terminal} {r : TypeTree} {xs ys : List Terminal} → DerivesTy r xs ys → Nests most false b 1 xs ys
 nests_ty (ty m d) = eased (behind (nests_base m) (λ c. nests_pairs d)) (omega arith)
 
-nests_reference : {most : ℕ} {b : Option Terminal} {r : TypeTree} {xs ys : List Terminal} → DerivesReference r xs ys → Nests most false b 1 xs ys
+pub nests_reference : {most : ℕ} {b : Option Terminal} {r : TypeTree} {xs ys : List Terminal} → DerivesReference r xs ys → Nests most false b 1 xs ys
 nests_reference (reference_name m d) = eased (behind (nests_name m) (λ c. nests_pairs d)) (omega arith)
 nests_reference (reference_prim m d) = eased (behind (nests_prim m) (λ c. nests_pairs d)) (omega arith)
 
@@ -130,24 +130,24 @@ mutual
   nests_expr n (expr_assign {p} {o} d h r) = (let m = among IsChained assignment_operators o assignments_chained h in eased (behind (nests_primary d) (λ c. chained p o m (nests_expr m.0.1 r))) (omega arith))
   nests_expr n (expr_cond d) = nests_cond n d
 
-  nests_cond : {most : ℕ} {b : Option Terminal} {f : Form} {e : ExprTree} {xs ys : List Terminal} → IsFree b → (d : DerivesCond f e xs ys) → Nests most false b (suc (deep_cond d)) xs ys
+  pub nests_cond : {most : ℕ} {b : Option Terminal} {f : Form} {e : ExprTree} {xs ys : List Terminal} → IsFree b → (d : DerivesCond f e xs ys) → Nests most false b (suc (deep_cond d)) xs ys
   nests_cond n (cond_bin d) = nests_bin n levels_quiet d
   nests_cond n (cond_choice d x y) = eased (behind (nests_bin n levels_quiet d) (λ c. chain refl refl (behind (nests_expr refl x) (λ c. flat refl (nests_cond refl y))))) (omega arith)
 
-  nests_bin : {most : ℕ} {b : Option Terminal} {levels' : List (List ℕ)} {f : Form} {e : ExprTree} {xs ys : List Terminal} → IsFree b → AreQuiet levels' → (d : DerivesBin levels' f e xs ys) → Nests most false b (suc (deep_bin d)) xs ys
+  pub nests_bin : {most : ℕ} {b : Option Terminal} {levels' : List (List ℕ)} {f : Form} {e : ExprTree} {xs ys : List Terminal} → IsFree b → AreQuiet levels' → (d : DerivesBin levels' f e xs ys) → Nests most false b (suc (deep_bin d)) xs ys
   nests_bin n a (bin_unary d) = nests_free n d
   nests_bin n a (bin_one d) = nests_bin n a.1 d
   nests_bin n a (bin_chain d l) = eased (behind (nests_bin n a.1 d) (λ c. nests_links a.0 a.1 l)) (omega arith)
 
-  nests_links : {most : ℕ} {b : Option Terminal} {level : List ℕ} {tighter : List (List ℕ)} {ls : LinkTrees} {xs ys : List Terminal} → Each IsQuiet level → AreQuiet tighter → (d : DerivesLinks level tighter ls xs ys) → Nests most false b (suc (deep_links d)) xs ys
+  pub nests_links : {most : ℕ} {b : Option Terminal} {level : List ℕ} {tighter : List (List ℕ)} {ls : LinkTrees} {xs ys : List Terminal} → Each IsQuiet level → AreQuiet tighter → (d : DerivesLinks level tighter ls xs ys) → Nests most false b (suc (deep_links d)) xs ys
   nests_links e a (links_one d) = nests_link e a d
   nests_links e a (links_more d l) = eased (behind (nests_link e a d) (λ c. nests_links e a l)) (omega arith)
 
-  nests_link : {most : ℕ} {b : Option Terminal} {level : List ℕ} {tighter : List (List ℕ)} {p o : ℕ} {x : OperandTree} {xs ys : List Terminal} → Each IsQuiet level → AreQuiet tighter → (d : DerivesLink level tighter p o x xs ys) → Nests most false b (suc (deep_link d)) xs ys
+  pub nests_link : {most : ℕ} {b : Option Terminal} {level : List ℕ} {tighter : List (List ℕ)} {p o : ℕ} {x : OperandTree} {xs ys : List Terminal} → Each IsQuiet level → AreQuiet tighter → (d : DerivesLink level tighter p o x xs ys) → Nests most false b (suc (deep_link d)) xs ys
   nests_link {level} e a (link_operand {o} m d) = (let q = among IsQuiet level o e m.0 in flat q.0 (nests_bin q.1 a d))
   nests_link e a (link_type m d) = eased (flat refl (nests_reference d)) (omega arith)
 
-  nests_unary : {most : ℕ} {b : Option Terminal} {f : Form} {e : ExprTree} {xs ys : List Terminal} (d : DerivesUnary f e xs ys) → Nests most false b (deep_unary d) xs ys
+  pub nests_unary : {most : ℕ} {b : Option Terminal} {f : Form} {e : ExprTree} {xs ys : List Terminal} (d : DerivesUnary f e xs ys) → Nests most false b (deep_unary d) xs ys
   nests_unary (unary_sign {p} {o} h d) = (let s = among IsSign signs o signs_are h in flat s.quiet.0 (nests_free s.quiet.1 d))
   nests_unary (unary_step {p} {o} h d) = eased (chained p o (among IsChained postfix_operators o steps_chained h) (nests_unary d)) (omega arith)
   nests_unary unary_minimum = eased (flat refl (flat refl done)) (omega arith)
@@ -156,7 +156,7 @@ mutual
   nests_unary (unary_post d) = eased (nests_post d) (omega arith)
 
   -- behind what ends no operand a sign is a chain token
-  nests_free : {most : ℕ} {b : Option Terminal} {f : Form} {e : ExprTree} {xs ys : List Terminal} → IsFree b → (d : DerivesUnary f e xs ys) → Nests most false b (suc (deep_unary d)) xs ys
+  pub nests_free : {most : ℕ} {b : Option Terminal} {f : Form} {e : ExprTree} {xs ys : List Terminal} → IsFree b → (d : DerivesUnary f e xs ys) → Nests most false b (suc (deep_unary d)) xs ys
   nests_free {b} n (unary_sign {o} {xs} h d) = (let s = among IsSign signs o signs_are h in eased (chain s.quiet.0 (s.chains b (first xs) n) (nests_unary d)) (omega arith))
   nests_free n (unary_step {p} {o} h d) = eased (chained p o (among IsChained postfix_operators o steps_chained h) (nests_unary d)) (omega arith)
   nests_free n unary_minimum = flat refl (flat refl done)
@@ -164,26 +164,26 @@ mutual
   nests_free n (unary_cast d) = nests_cast d
   nests_free n (unary_post d) = nests_post d
 
-  nests_cast : {most : ℕ} {b : Option Terminal} {e : ExprTree} {xs ys : List Terminal} (d : DerivesCast e xs ys) → Nests most false b (suc (deep_cast d)) xs ys
+  pub nests_cast : {most : ℕ} {b : Option Terminal} {e : ExprTree} {xs ys : List Terminal} (d : DerivesCast e xs ys) → Nests most false b (suc (deep_cast d)) xs ys
   nests_cast (cast_prim m d) = eased (prim_cast m (nests_unary d)) (omega arith)
   nests_cast (cast_reference {zs = zs} m d) = eased (cast (plain_follows zs (plain_begins d)) (part (nests_reference m)) (nests_plain d)) (omega arith)
 
-  nests_plain : {most : ℕ} {b : Option Terminal} {f : Form} {e : ExprTree} {xs ys : List Terminal} (d : DerivesPlain f e xs ys) → Nests most false b (suc (deep_plain d)) xs ys
+  pub nests_plain : {most : ℕ} {b : Option Terminal} {f : Form} {e : ExprTree} {xs ys : List Terminal} (d : DerivesPlain f e xs ys) → Nests most false b (suc (deep_plain d)) xs ys
   nests_plain (plain_sign {p} {o} h d) = eased (chained p o (among IsChained complements o complements_chained h) (nests_unary d)) (omega arith)
   nests_plain (plain_cast d) = nests_cast d
   nests_plain (plain_post d) = nests_post d
 
-  nests_post : {most : ℕ} {b : Option Terminal} {f : Form} {e : ExprTree} {xs ys : List Terminal} (d : DerivesPost f e xs ys) → Nests most false b (suc (deep_post d)) xs ys
+  pub nests_post : {most : ℕ} {b : Option Terminal} {f : Form} {e : ExprTree} {xs ys : List Terminal} (d : DerivesPost f e xs ys) → Nests most false b (suc (deep_post d)) xs ys
   nests_post (post_primary d) = nests_primary d
   nests_post (post_step {p} {o} d h) = (let s = among IsChained postfix_operators o steps_chained h in eased (behind (nests_post d) (λ c. flat s.0.0 done)) (omega arith))
 
-  nests_primary : {most : ℕ} {b : Option Terminal} {f : Form} {e : ExprTree} {xs ys : List Terminal} (d : DerivesPrimary f e xs ys) → Nests most false b (suc (deep_primary d)) xs ys
+  pub nests_primary : {most : ℕ} {b : Option Terminal} {f : Form} {e : ExprTree} {xs ys : List Terminal} (d : DerivesPrimary f e xs ys) → Nests most false b (suc (deep_primary d)) xs ys
   nests_primary (primary_head d) = nests_head d
   nests_primary (primary_field d h) = eased (behind (nests_primary d) (λ c. flat refl (flat refl done))) (omega arith)
   nests_primary (primary_call d a) = eased (behind (nests_primary d) (λ c. flat refl (flat refl (nests_args a)))) (omega arith)
   nests_primary (primary_index d x) = eased (behind (nests_primary d) (λ c. square (part (nests_expr refl x)) done)) (omega arith)
 
-  nests_head : {most : ℕ} {b : Option Terminal} {f : Form} {e : ExprTree} {xs ys : List Terminal} (d : DerivesHead f e xs ys) → Nests most false b (suc (deep_head d)) xs ys
+  pub nests_head : {most : ℕ} {b : Option Terminal} {f : Form} {e : ExprTree} {xs ys : List Terminal} (d : DerivesHead f e xs ys) → Nests most false b (suc (deep_head d)) xs ys
   nests_head head_literal = flat refl done
   nests_head head_this = flat refl done
   nests_head (head_paren h d) = eased (round (part (nests_expr refl d)) done) (omega arith)
@@ -195,7 +195,7 @@ mutual
   nests_head (head_new_array m d h) = flat refl (eased (behind (nests_base m) (λ c. nests_dims d)) (omega arith))
   nests_head (head_new_list m q l) = flat refl (eased (behind (nests_base m) (λ c. pairs_first q (λ r. nests_list refl l))) (omega arith))
 
-  nests_dims : {most : ℕ} {b : Option Terminal} {es : ExprTrees} {n : ℕ} {xs ys : List Terminal} (d : DerivesDims es n xs ys) → Nests most false b (suc (suc (deep_dims d))) xs ys
+  pub nests_dims : {most : ℕ} {b : Option Terminal} {es : ExprTrees} {n : ℕ} {xs ys : List Terminal} (d : DerivesDims es n xs ys) → Nests most false b (suc (suc (deep_dims d))) xs ys
   nests_dims (dims_one d q) = eased (square (part (nests_expr refl d)) (nests_pairs q)) (omega arith)
   nests_dims (dims_more d r) = eased (square (part (nests_expr refl d)) (nests_dims r)) (omega arith)
 
@@ -203,7 +203,7 @@ mutual
   nests_args args_none = eased (round (part done) done) (omega arith)
   nests_args (args_some d) = eased (round (parts_exprs refl d) done) (omega arith)
 
-  parts_exprs : {most : ℕ} {b : Option Terminal} {es : ExprTrees} {xs ys : List Terminal} → IsFree b → (d : DerivesExprs es xs ys) → Parts most b (suc (deep_exprs d)) xs ys
+  pub parts_exprs : {most : ℕ} {b : Option Terminal} {es : ExprTrees} {xs ys : List Terminal} → IsFree b → (d : DerivesExprs es xs ys) → Parts most b (suc (deep_exprs d)) xs ys
   parts_exprs n (exprs_one d) = part (nests_expr n d)
   parts_exprs n (exprs_more d r) = eased_parts (parts (part (nests_expr n d)) (λ c. loose refl (parts_exprs refl r))) (omega arith)
 
@@ -212,14 +212,14 @@ mutual
   parts_init n (init_list d) = eased_parts (part (nests_list {ends = true} refl d)) (omega arith)
 
   -- a list: behind `]` it keeps the load, elsewhere it may set it to the base
-  nests_list : {most : ℕ} {ends : Bool} {b : Option Terminal} {p : ℕ} {is : InitTrees} {xs ys : List Terminal}
+  pub nests_list : {most : ℕ} {ends : Bool} {b : Option Terminal} {p : ℕ} {is : InitTrees} {xs ys : List Terminal}
       → ends || is_there (is_mark 5) b ≡ true → (d : DerivesList p is xs ys) → Nests most ends b (suc (deep_list d)) xs ys
   nests_list h (list_none list_end) = eased (braces h (part done)) (omega arith)
   nests_list h (list_none list_comma_end) = eased (braces h (loose refl (part done))) (omega arith)
   nests_list h (list_some d list_end) = eased (braces h (parts_inits refl d)) (omega arith)
   nests_list h (list_some d list_comma_end) = eased (braces h (parts (parts_inits refl d) (λ c. loose refl (part done)))) (omega arith)
 
-  parts_inits : {most : ℕ} {b : Option Terminal} {is : InitTrees} {xs ys : List Terminal} → IsFree b → (d : DerivesInits is xs ys) → Parts most b (suc (deep_inits d)) xs ys
+  pub parts_inits : {most : ℕ} {b : Option Terminal} {is : InitTrees} {xs ys : List Terminal} → IsFree b → (d : DerivesInits is xs ys) → Parts most b (suc (deep_inits d)) xs ys
   parts_inits n (inits_one d) = parts_init n d
   parts_inits n (inits_more d r) = eased_parts (parts (parts_init n d) (λ c. loose refl (parts_inits refl r))) (omega arith)
 

@@ -8,7 +8,7 @@ use Rattle.jv_grammar.specs.Nesting.{IsRising, IsSound}
 use Rattle.jv_grammar.proofs.Loads.{within_after, pushes, pops, keeps}
 
 -- each load is at most 200
-abbrev AreLow : List ℕ → Type 0
+abbrev pub AreLow : List ℕ → Type 0
 AreLow [] = Unit
 AreLow (x ∷ xs) = (x ≤ 200) × AreLow xs
 
@@ -40,7 +40,7 @@ shallow_is_low before n (t ∷ ts) s l h =
 outside_is_sound : IsSound outside
 outside_is_sound = record { low = omega arith; rising = tt }
 
-are_low : (ts : List Terminal) → IsShallow ts → AreLow (loads_of ts)
+pub are_low : (ts : List Terminal) → IsShallow ts → AreLow (loads_of ts)
 are_low ts h = shallow_is_low None outside ts outside_is_sound (omega arith) h
 
 pub loads_are_low : (ts : List Terminal) (i load : ℕ) → IsShallow ts → slice_get (loads_of ts) i ≡ Some load → load ≤ 200
@@ -118,12 +118,12 @@ pub front_is_shallow : (ts : List Terminal) (k : ℕ) → IsShallow ts → IsSha
 front_is_shallow ts k h = low_is_shallow (loads_of (take k ts)) (front_is_low None outside ts k outside_is_sound (are_low ts h))
 
 -- Loads are low behind closed brackets, where the stack is what it was.
-record Behind (stack : List Opening) (ts : List Terminal) : Type 0 where
-  before : Option Terminal
-  load : ℕ
-  low : AreLow (loads_from before (record { load = load; stack = stack }) ts)
+pub record Behind (stack : List Opening) (ts : List Terminal) : Type 0 where
+  pub before : Option Terminal
+  pub load : ℕ
+  pub low : AreLow (loads_from before (record { load = load; stack = stack }) ts)
 
-behind : {ts us : List Terminal} (before : Option Terminal) (n : Nesting) → IsClosed ts us → AreLow (loads_from before n ts) → Behind n.stack us
+pub behind : {ts us : List Terminal} (before : Option Terminal) (n : Nesting) → IsClosed ts us → AreLow (loads_from before n ts) → Behind n.stack us
 behind before n nothing l = record { before = before; load = n.load; low = l }
 behind {ts = t ∷ ts} {us = us} before n (terminal o c rest) l =
     subst (λ s. Behind s us) (keeps before t (first ts) n o c) (behind (Some t) (after before t (first ts) n) rest l.1)

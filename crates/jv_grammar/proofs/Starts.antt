@@ -35,7 +35,7 @@ not_starts n (Literal p l ∷ xs) f h = refl
 not_starts n (Minimum p ∷ xs) f h = refl
 not_starts n (MinimumLong p ∷ xs) f h = refl
 
-or_true : (a b : Bool) → b ≡ true → a || b ≡ true
+pub or_true : (a b : Bool) → b ≡ true → a || b ≡ true
 or_true true b h = refl
 or_true false b h = h
 

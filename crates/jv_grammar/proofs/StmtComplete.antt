@@ -51,12 +51,12 @@ abbrev pub got_head : StmtTrees → Option ExprTree → ExprTrees → List Termi
 got_head ss c es ys = Ok (record { first = ss; condition = c; updates = es }, ys)
 
 module _ (n : ℕ) (b : Below) (c : Comp n b) where
-  c_var : {v : VarTree} {xs ys : List Terminal} (d : DerivesVar v xs ys) → deep_var d ≤ n → wide_var d ≤ 200 → 12 < first_rank ys → var_by b xs ≡ got_var v ys
+  pub c_var : {v : VarTree} {xs ys : List Terminal} (d : DerivesVar v xs ys) → deep_var d ≤ n → wide_var d ≤ 200 → 12 < first_rank ys → var_by b xs ≡ got_var v ys
   unfolding var_by
   c_var (var_alone {ys}) h w r = rw (starts_apart equals_sign ys r) refl
   c_var (var_init d) h w r = rw (c_init n b c d h w r) refl
 
-  c_vars_up_to : {vs : List VarTree} {xs ys : List Terminal} (d : DerivesVars vs xs ys) (k : ℕ) → deep_vars d ≤ n → wide_vars d ≤ 200 → 12 < first_rank ys → starts comma ys ≡ false → length xs ≤ k → vars_up_to b k xs ≡ got_vars vs ys
+  pub c_vars_up_to : {vs : List VarTree} {xs ys : List Terminal} (d : DerivesVars vs xs ys) (k : ℕ) → deep_vars d ≤ n → wide_vars d ≤ 200 → 12 < first_rank ys → starts comma ys ≡ false → length xs ≤ k → vars_up_to b k xs ≡ got_vars vs ys
   unfolding vars_up_to
   c_vars_up_to (vars_one d) zero h w r m l = absurd (omega (arith, less_var d))
   c_vars_up_to (vars_one d) (suc k) h w r m l = rw (c_var d h w r) (rw m refl)
@@ -77,11 +77,11 @@ module _ (n : ℕ) (b : Below) (c : Comp n b) where
       let i = vars_ident q in
       rw (reads_ty d (omega arith) i.1 i.2) (rw (c_vars q h (omega arith) r m) refl)
 
-  c_effect : {e : ExprTree} {xs ys : List Terminal} (d : DerivesExpr Effect e xs ys) → deep_expr d ≤ n → wide_expr d ≤ 200 → 12 < first_rank ys → effect_by b xs ≡ got_effect e ys
+  pub c_effect : {e : ExprTree} {xs ys : List Terminal} (d : DerivesExpr Effect e xs ys) → deep_expr d ≤ n → wide_expr d ≤ 200 → 12 < first_rank ys → effect_by b xs ≡ got_effect e ys
   unfolding effect_by
   c_effect d h w r = rw (c_expr n b c d h w r) refl
 
-  c_effects_up_to : {es : ExprTrees} {xs ys : List Terminal} (d : DerivesEffects es xs ys) (k : ℕ) → deep_effects d ≤ n → wide_effects d ≤ 200 → 12 < first_rank ys → starts comma ys ≡ false → length xs ≤ k → effects_up_to b k xs ≡ got_effects es ys
+  pub c_effects_up_to : {es : ExprTrees} {xs ys : List Terminal} (d : DerivesEffects es xs ys) (k : ℕ) → deep_effects d ≤ n → wide_effects d ≤ 200 → 12 < first_rank ys → starts comma ys ≡ false → length xs ≤ k → effects_up_to b k xs ≡ got_effects es ys
   unfolding effects_up_to
   c_effects_up_to (effects_one d) zero h w r m l = absurd (omega (arith, less_expr d))
   c_effects_up_to (effects_one d) (suc k) h w r m l = rw (c_effect d h w r) (rw m refl)
@@ -93,14 +93,14 @@ module _ (n : ℕ) (b : Below) (c : Comp n b) where
   unfolding effects_by
   c_effects {xs} d h w r m = c_effects_up_to d (length xs) h w r m (omega arith)
 
-  c_first : {ss : StmtTrees} {p : ℕ} {xs ys : List Terminal} (d : DerivesFirst ss xs (Punct p semicolon ∷ ys)) → deep_first d ≤ n → wide_first d ≤ 200 → first_by b xs ≡ got_stmts ss (Punct p semicolon ∷ ys)
+  pub c_first : {ss : StmtTrees} {p : ℕ} {xs ys : List Terminal} (d : DerivesFirst ss xs (Punct p semicolon ∷ ys)) → deep_first d ≤ n → wide_first d ≤ 200 → first_by b xs ≡ got_stmts ss (Punct p semicolon ∷ ys)
   unfolding first_by
   c_first first_none h w = refl
   c_first (first_local d) h w = rw (local_starts semicolon d, local_seen d) (rw (c_local d h w (lit< tt) refl) refl)
   c_first (first_effects {xs} d) h w =
       rw (not_starts semicolon xs refl (start_effects d), no_local_effects d (lit< tt) refl) (rw (c_effects d h w (lit< tt) refl) refl)
 
-  c_optional : {x : Option ExprTree} {p : ℕ} {xs ys : List Terminal} (d : DerivesOptional x xs (Punct p semicolon ∷ ys)) → deep_optional d ≤ n → wide_optional d ≤ 200 → optional_by b xs ≡ got_optional x (Punct p semicolon ∷ ys)
+  pub c_optional : {x : Option ExprTree} {p : ℕ} {xs ys : List Terminal} (d : DerivesOptional x xs (Punct p semicolon ∷ ys)) → deep_optional d ≤ n → wide_optional d ≤ 200 → optional_by b xs ≡ got_optional x (Punct p semicolon ∷ ys)
   unfolding optional_by
   c_optional optional_none h w = refl
   c_optional (optional_some {xs} d) h w = rw (not_starts semicolon xs refl (start_expr d)) (rw (c_expr n b c d h w (lit< tt)) refl)
@@ -110,7 +110,7 @@ module _ (n : ℕ) (b : Below) (c : Comp n b) where
   c_updates updates_none h w = refl
   c_updates (updates_some {xs} d) h w = rw (not_starts paren_close xs refl (start_effects d)) (c_effects d h w (lit< tt) refl)
 
-  c_for_head : {ss : StmtTrees} {x : Option ExprTree} {es : ExprTrees} {r u v : ℕ} {xs zs ws ys : List Terminal} (q : ℕ)
+  pub c_for_head : {ss : StmtTrees} {x : Option ExprTree} {es : ExprTrees} {r u v : ℕ} {xs zs ws ys : List Terminal} (q : ℕ)
       (i : DerivesFirst ss xs (Punct u semicolon ∷ zs)) (o : DerivesOptional x zs (Punct v semicolon ∷ ws)) (m : DerivesUpdates es ws (Punct r paren_close ∷ ys))
       → deep_first i ≤ n → wide_first i ≤ 200 → deep_optional o ≤ n → wide_optional o ≤ 200 → deep_updates m ≤ n → wide_updates m ≤ 200
       → for_head_by b (Punct q paren_open ∷ xs) ≡ got_head ss x es ys
@@ -147,12 +147,12 @@ module _ (n : ℕ) (b : Below) (c : Comp n b) (l : BelowStmt) (m : CompStmt n l)
   c_stmt stmt_break h w = refl
   c_stmt stmt_continue h w = refl
 
-  c_bstmt : {x : StmtTree} {xs ys : List Terminal} (d : DerivesBstmt x xs ys) → deep_bstmt d ≤ n → wide_bstmt d ≤ 200 → bstmt_by b l xs ≡ got_stmt x ys
+  pub c_bstmt : {x : StmtTree} {xs ys : List Terminal} (d : DerivesBstmt x xs ys) → deep_bstmt d ≤ n → wide_bstmt d ≤ 200 → bstmt_by b l xs ≡ got_stmt x ys
   unfolding bstmt_by
   c_bstmt (bstmt_local d) h w = rw (local_seen d) (rw (c_local n b c d h w (lit< tt) refl) refl)
   c_bstmt (bstmt_stmt d) h w = rw (no_local d) (c_stmt d h w)
 
-  c_bstmts_up_to : {ss : StmtTrees} {xs ys : List Terminal} (d : DerivesBstmts ss xs ys) (k : ℕ) → deep_bstmts d ≤ n → wide_bstmts d ≤ 200 → ends_block ys ≡ true → length xs < k → bstmts_up_to b l k xs ≡ got_stmts ss ys
+  pub c_bstmts_up_to : {ss : StmtTrees} {xs ys : List Terminal} (d : DerivesBstmts ss xs ys) (k : ℕ) → deep_bstmts d ≤ n → wide_bstmts d ≤ 200 → ends_block ys ≡ true → length xs < k → bstmts_up_to b l k xs ≡ got_stmts ss ys
   unfolding bstmts_up_to
   c_bstmts_up_to d zero h w e i = absurd (omega arith)
   c_bstmts_up_to bstmts_none (suc k) h w e i = rw e refl

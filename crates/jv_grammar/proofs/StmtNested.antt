@@ -19,39 +19,39 @@ pub parts_vars : {most : ℕ} {b : Option Terminal} {vs : List VarTree} {xs ys :
 parts_vars (vars_one d) = parts_var d
 parts_vars (vars_more d r) = eased_parts (parts (parts_var d) (λ c. loose refl (parts_vars r))) (omega arith)
 
-parts_local : {most : ℕ} {b : Option Terminal} {x : StmtTree} {xs ys : List Terminal} (d : DerivesLocal x xs ys) → Parts most b (suc (deep_local d)) xs ys
+pub parts_local : {most : ℕ} {b : Option Terminal} {x : StmtTree} {xs ys : List Terminal} (d : DerivesLocal x xs ys) → Parts most b (suc (deep_local d)) xs ys
 parts_local (local_vars d r) = eased_parts (parts (part (nests_ty d)) (λ c. parts_vars r)) (omega arith)
 parts_local (local_final d r) = loose refl (eased_parts (parts (part (nests_ty d)) (λ c. parts_vars r)) (omega arith))
 
-parts_effects : {most : ℕ} {b : Option Terminal} {es : ExprTrees} {xs ys : List Terminal} (d : DerivesEffects es xs ys) → Parts most b (suc (deep_effects d)) xs ys
+pub parts_effects : {most : ℕ} {b : Option Terminal} {es : ExprTrees} {xs ys : List Terminal} (d : DerivesEffects es xs ys) → Parts most b (suc (deep_effects d)) xs ys
 parts_effects (effects_one d) = part (nests_effect d)
 parts_effects (effects_more d r) = eased_parts (parts (part (nests_effect d)) (λ c. loose refl (parts_effects r))) (omega arith)
 
-parts_first : {most : ℕ} {b : Option Terminal} {ss : StmtTrees} {xs ys : List Terminal} (d : DerivesFirst ss xs ys) → Parts most b (suc (deep_first d)) xs ys
+pub parts_first : {most : ℕ} {b : Option Terminal} {ss : StmtTrees} {xs ys : List Terminal} (d : DerivesFirst ss xs ys) → Parts most b (suc (deep_first d)) xs ys
 parts_first first_none = part done
 parts_first (first_local d) = parts_local d
 parts_first (first_effects d) = parts_effects d
 
-nests_optional : {most : ℕ} {b : Option Terminal} {c : Option ExprTree} {xs ys : List Terminal} → IsFree b → (d : DerivesOptional c xs ys) → Nests most false b (suc (deep_optional d)) xs ys
+pub nests_optional : {most : ℕ} {b : Option Terminal} {c : Option ExprTree} {xs ys : List Terminal} → IsFree b → (d : DerivesOptional c xs ys) → Nests most false b (suc (deep_optional d)) xs ys
 nests_optional n optional_none = done
 nests_optional n (optional_some d) = nests_expr n d
 
-parts_updates : {most : ℕ} {b : Option Terminal} {es : ExprTrees} {xs ys : List Terminal} (d : DerivesUpdates es xs ys) → Parts most b (suc (deep_updates d)) xs ys
+pub parts_updates : {most : ℕ} {b : Option Terminal} {es : ExprTrees} {xs ys : List Terminal} (d : DerivesUpdates es xs ys) → Parts most b (suc (deep_updates d)) xs ys
 parts_updates updates_none = part done
 parts_updates (updates_some d) = parts_effects d
 
 -- An `if` directly behind `else` is no chain token: room for one level more, but none behind `else`.
-abbrev spare_of : Bool → ℕ
+abbrev pub spare_of : Bool → ℕ
 spare_of b = if b then 0 else 1
 
 abbrev pub spare : Option Terminal → ℕ
 spare before = spare_of (is_there (is_keyword 14) before)
 
-spare_low : (b : Bool) → spare_of b ≤ 1
+pub spare_low : (b : Bool) → spare_of b ≤ 1
 spare_low true = omega arith
 spare_low false = omega arith
 
-no_else : (a : Bool) → a ≡ false → not a || false || false || false ≡ true
+pub no_else : (a : Bool) → a ≡ false → not a || false || false || false ≡ true
 no_else true h = absurd (true≢false h)
 no_else false h = refl
 
@@ -70,7 +70,7 @@ mutual
   parts_bstmts bstmts_none = eased_parts (part done) (omega arith)
   parts_bstmts (bstmts_more d r) = parts (parts_bstmt d) (λ c. parts_bstmts r)
 
-  parts_bstmt : {most : ℕ} {b : Option Terminal} {x : StmtTree} {xs ys : List Terminal} (d : DerivesBstmt x xs ys) → Parts most b (deep_bstmt d) xs ys
+  pub parts_bstmt : {most : ℕ} {b : Option Terminal} {x : StmtTree} {xs ys : List Terminal} (d : DerivesBstmt x xs ys) → Parts most b (deep_bstmt d) xs ys
   parts_bstmt (bstmt_local d) = eased_parts (parts (parts_local d) (λ c. loose refl (part done))) (omega arith)
   parts_bstmt (bstmt_stmt d) = eased_parts (part (nests_stmt d)) (omega arith)
 

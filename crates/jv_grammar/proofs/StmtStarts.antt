@@ -39,7 +39,7 @@ pub start_word : (p k : ℕ) (xs : List Terminal) → IsStart (Keyword p k ∷ x
 start_word p k xs h = in_list (nat_eq k word_this) (nat_eq k word_super) (nat_eq k word_new) h
 
 -- an expression does not begin with `final`
-no_final : (xs : List Terminal) → IsStart xs → starts_word word_final xs ≡ false
+pub no_final : (xs : List Terminal) → IsStart xs → starts_word word_final xs ≡ false
 no_final [] h = refl
 no_final (Ident i ∷ xs) h = refl
 no_final (Keyword p k ∷ xs) h = among (λ n. nat_eq n word_final ≡ false) start_words k (refl, (refl, (refl, tt))) (start_word p k xs h)
@@ -78,7 +78,7 @@ to_effect b l (MinimumLong p ∷ xs) h = refl
 to_effect b l (Punct p o ∷ xs) h = rw (not_starts brace_open (Punct p o ∷ xs) refl h, not_starts semicolon (Punct p o ∷ xs) refl h) refl
 
 -- variables begin with an identifier
-var_ident : {v : VarTree} {xs ys : List Terminal} → DerivesVar v xs ys → (starts_ident xs ≡ true) × (starts dot xs ≡ false) × (starts bracket_open xs ≡ false)
+pub var_ident : {v : VarTree} {xs ys : List Terminal} → DerivesVar v xs ys → (starts_ident xs ≡ true) × (starts dot xs ≡ false) × (starts bracket_open xs ≡ false)
 var_ident var_alone = (refl, refl, refl)
 var_ident (var_init d) = (refl, refl, refl)
 

@@ -4,7 +4,7 @@ use Rattle.std.proofs.Common.{◌≡◌, ℕ, suc, ◌+◌, ◌*◌, ◌≤◌, 
 use Rattle.jv_grammar.specs.declared.terminal.Terminal.{Terminal}
 use Rattle.jv_grammar.specs.declared.terminal.Terminal.TheVariants.{Punct}
 use Rattle.jv_grammar.specs.declared.load.Opening.{Opening}
-use Rattle.jv_grammar.specs.Load.{is_mark, is_there, is_opening, is_closing, is_primitive, follows_cast, is_chain, goes_on, ends_part, base, after, first, loads_from, loads_of, outside, Nesting}
+use Rattle.jv_grammar.specs.Load.{is_mark, is_keyword, is_there, is_opening, is_closing, is_primitive, follows_cast, is_chain, goes_on, ends_part, base, after, first, loads_from, loads_of, outside, Nesting}
 use Rattle.jv_grammar.specs.NestingLaw.{AreLoadsAtMost}
 
 -- each load is at most a number
@@ -20,9 +20,15 @@ low_ones most (x ∷ xs) h = (h 0 x refl, low_ones most xs (λ i. h (suc i)))
 abbrev pub IsLow : ℕ → Option Terminal → Nesting → List Terminal → Type 0
 IsLow most before n ts = AreLow most (n.load ∷ loads_from before n ts)
 
--- what stands behind a stretch: the brackets that are open are those before it, and the load is at least a number
-pub record Behind (most least : ℕ) (stack : List Opening) (ts : List Terminal) : Type 0 where
+-- no `else` stands before
+abbrev pub IsCalm : Option Terminal → Type 0
+IsCalm before = is_there (is_keyword 14) before ≡ false
+
+-- what stands behind a stretch: the brackets that are open are those before it, and the load is at least a number; a statement ends
+-- with no `else`
+pub record Behind (most : ℕ) (ends : Bool) (least : ℕ) (stack : List Opening) (ts : List Terminal) : Type 0 where
   pub before : Option Terminal
+  pub calm : ends ≡ true → IsCalm before
   pub load : ℕ
   pub high : least ≤ load
   pub low : IsLow most before (record { load = load; stack = stack }) ts
@@ -37,19 +43,23 @@ least ends ts n = kept (ends && not (is_there goes_on (first ts))) (base n.stack
 -- The terminals of the first list up to the second, its rest, behind the one before them: twice the load before them and a room, the
 -- levels that they nest and one more, are at most twice the highest load and one. Behind them the load is no lower, or follows the rule of a statement's end.
 pub record Nests (most : ℕ) (ends : Bool) (before : Option Terminal) (room : ℕ) (ts us : List Terminal) : Type 0 where
-  pub run : (n : Nesting) → base n.stack ≤ n.load → IsLow most before n ts → (2 * n.load + room ≤ 2 * most + 1) × Behind most (least ends us n) n.stack us
+  pub run : (n : Nesting) → base n.stack ≤ n.load → IsLow most before n ts → (2 * n.load + room ≤ 2 * most + 1) × Behind most ends (least ends us n) n.stack us
 
 -- the same of parts, with `,` or `;` between them: what stands for the load is the base
 pub record Parts (most : ℕ) (before : Option Terminal) (room : ℕ) (ts us : List Terminal) : Type 0 where
-  pub run : (n : Nesting) → base n.stack ≤ n.load → IsLow most before n ts → (2 * base n.stack + room ≤ 2 * most + 1) × Behind most (base n.stack) n.stack us
+  pub run : (n : Nesting) → base n.stack ≤ n.load → IsLow most before n ts → (2 * base n.stack + room ≤ 2 * most + 1) × Behind most false (base n.stack) n.stack us
 
-lower : {most : ℕ} {a b : ℕ} {stack : List Opening} {ts : List Terminal} → a ≤ b → Behind most b stack ts → Behind most a stack ts
-lower l b = record { before = b.before; load = b.load; high = let h = b.high in omega arith; low = b.low }
+pub lower : {most : ℕ} {ends : Bool} {a b : ℕ} {stack : List Opening} {ts : List Terminal} → a ≤ b → Behind most ends b stack ts → Behind most ends a stack ts
+lower l b = record { before = b.before; calm = b.calm; load = b.load; high = let h = b.high in omega arith; low = b.low }
+
+-- a stretch that ends no statement
+no_end : {most : ℕ} {ends : Bool} {a : ℕ} {stack : List Opening} {ts : List Terminal} → Behind most ends a stack ts → Behind most false a stack ts
+no_end b = record { before = b.before; calm = λ e. absurd (true≢false (sym e)); load = b.load; high = b.high; low = b.low }
 
 -- a nesting with the same brackets open, and a load at least as high
-record Above (n m : Nesting) : Type 0 where
-  load : n.load ≤ m.load
-  stack : m.stack ≡ n.stack
+pub record Above (n m : Nesting) : Type 0 where
+  pub load : n.load ≤ m.load
+  pub stack : m.stack ≡ n.stack
 
 kept_rises : (c : Bool) (low high low' high' : ℕ) → low ≤ low' → high ≤ high' → kept c low high ≤ kept c low' high'
 kept_rises true low high low' high' l h = l
@@ -61,15 +71,15 @@ same_base a = ap base a.stack
 least_rises : (ends : Bool) (us : List Terminal) (n m : Nesting) → Above n m → least ends us n ≤ least ends us m
 least_rises ends us n m a = let e = same_base a in kept_rises (ends && not (is_there goes_on (first us))) _ _ _ _ (omega (arith, e)) a.load
 
-least_above : (c : Bool) (low high : ℕ) → low ≤ high → low ≤ kept c low high
+pub least_above : (c : Bool) (low high : ℕ) → low ≤ high → low ≤ kept c low high
 least_above true low high l = omega arith
 least_above false low high l = l
 
 -- back from a nesting above
-onto : {most : ℕ} (ends : Bool) (us : List Terminal) (n m : Nesting) → Above n m → Behind most (least ends us m) m.stack us → Behind most (least ends us n) n.stack us
-onto {most} ends us n m a b = subst (λ s. Behind most (least ends us n) s us) a.stack (lower (least_rises ends us n m a) b)
+onto : {most : ℕ} (ends : Bool) (us : List Terminal) (n m : Nesting) → Above n m → Behind most ends (least ends us m) m.stack us → Behind most ends (least ends us n) n.stack us
+onto {most} ends us n m a b = subst (λ s. Behind most ends (least ends us n) s us) a.stack (lower (least_rises ends us n m a) b)
 
-above_base : {n m : Nesting} → Above n m → base n.stack ≤ n.load → base m.stack ≤ m.load
+pub above_base : {n m : Nesting} → Above n m → base n.stack ≤ n.load → base m.stack ≤ m.load
 above_base a l = let e = same_base a in let k = a.load in omega (arith, e, k, l)
 
 -- a terminal that is no bracket, no `,` and no `;`
@@ -94,16 +104,16 @@ quiet_chain false true m s g e true n x y z h k = absurd (true≢false (sym h))
 quiet_chain false false true s g e true n x y z h k = absurd (true≢false (sym h))
 quiet_chain false false false true g e true n x y z h k = absurd (true≢false (sym h))
 
-stays : (before : Option Terminal) (t : Terminal) (behind : Option Terminal) (n : Nesting) → is_quiet t ≡ true → Above n (after before t behind n)
+pub stays : (before : Option Terminal) (t : Terminal) (behind : Option Terminal) (n : Nesting) → is_quiet t ≡ true → Above n (after before t behind n)
 stays before t behind n q = quiet_after (is_opening t) (is_closing t) (is_mark 7 t) (is_mark 6 t) _ _ (is_chain before t behind) n _ _ _ q
 
-climbs : (before : Option Terminal) (t : Terminal) (behind : Option Terminal) (n : Nesting) → is_quiet t ≡ true → is_chain before t behind ≡ true
+pub climbs : (before : Option Terminal) (t : Terminal) (behind : Option Terminal) (n : Nesting) → is_quiet t ≡ true → is_chain before t behind ≡ true
     → n.load + 1 ≤ (after before t behind n).load
 climbs before t behind n q c = quiet_chain (is_opening t) (is_closing t) (is_mark 7 t) (is_mark 6 t) _ _ (is_chain before t behind) n _ _ _ q c
 
 -- nothing at all
 pub done : {most : ℕ} {b : Option Terminal} {ts : List Terminal} → Nests most false b 1 ts ts
-done {b} = record { run = λ n l h. (let k = h.0 in omega (arith, k), record { before = b; load = n.load; high = omega arith; low = h }) }
+done {b} = record { run = λ n l h. (let k = h.0 in omega (arith, k), record { before = b; calm = λ e. absurd (true≢false (sym e)); load = n.load; high = omega arith; low = h }) }
 
 -- less room
 pub eased : {most : ℕ} {ends : Bool} {b : Option Terminal} {j k : ℕ} {ts us : List Terminal} → Nests most ends b k ts us → j ≤ k → Nests most ends b j ts us
@@ -153,13 +163,13 @@ chain {ends} {b} {t = t} {ts} {us} q c s = record {
       (omega (arith, i, k), onto ends us n m a x.1);
 }
 
-rises : (b : Bool) (load : ℕ) → load ≤ (if b then load + 1 else load)
+pub rises : (b : Bool) (load : ℕ) → load ≤ (if b then load + 1 else load)
 rises true load = omega arith
 rises false load = omega arith
 
 -- behind a closing bracket the load is what the opening one pushed, or one more
 shut : {most : ℕ} (ends : Bool) (vs : List Terminal) (k : ℕ) {c : Option Terminal} {m : ℕ} {us : List Terminal} (n : Nesting) (more : Bool) → base n.stack ≤ n.load → 2 * (n.load + 1) + k ≤ 2 * most + 1
-    → Nests most ends c m us vs → IsLow most c (record { load = if more then n.load + 1 else n.load; stack = n.stack }) us → (2 * n.load + max (k + 2) m ≤ 2 * most + 1) × Behind most (least ends vs n) n.stack vs
+    → Nests most ends c m us vs → IsLow most c (record { load = if more then n.load + 1 else n.load; stack = n.stack }) us → (2 * n.load + max (k + 2) m ≤ 2 * most + 1) × Behind most ends (least ends vs n) n.stack vs
 shut ends vs k n more l i r h =
     let m : Nesting = record { load = if more then n.load + 1 else n.load; stack = n.stack } in
     let a : Above n m = record { load = rises more n.load; stack = refl } in
@@ -185,7 +195,7 @@ square {ends} {k = k} {q = q} {us = us} {vs} s r = record {
       shut ends vs k n (is_chain x.1.before (Punct q 5) (first us)) l x.0 r x.1.low.1;
 }
 
-either_way : (a b : Bool) → b ≡ true → (a || b) || false ≡ true
+pub either_way : (a b : Bool) → b ≡ true → (a || b) || false ≡ true
 either_way true b h = refl
 either_way false true h = refl
 either_way false false h = absurd (true≢false (sym h))
@@ -226,6 +236,7 @@ braces {ends} {b} {q = q} {us = us} e s = record {
         omega (arith, i),
         record {
           before = Some (Punct q 3);
+          calm = λ e. refl;
           load = _;
           high = braced ends (is_there (is_mark 5) b) (is_there goes_on (first us)) (base n.stack) n.load l e;
           low = x.1.low.1;
@@ -250,7 +261,7 @@ pub kept_on : {most : ℕ} {b : Option Terminal} {k : ℕ} {t : Terminal} {ts us
 kept_on {most} {t = t} {us = us} g s = record {
   run = λ n l h.
       let x = s.run n l h in
-      (x.0, subst (λ g. Behind most (kept (true && not g) (base n.stack) n.load) n.stack (t ∷ us)) g x.1);
+      (x.0, no_end (subst (λ g. Behind most true (kept (true && not g) (base n.stack) n.load) n.stack (t ∷ us)) g x.1));
 }
 
 -- a part that is one stretch
@@ -259,7 +270,7 @@ part {ends} {us = us} s = record {
   run = λ n l h.
       let x = s.run n l h in
       let i = x.0 in
-      (omega (arith, i, l), lower (least_above (ends && not (is_there goes_on (first us))) (base n.stack) n.load l) x.1);
+      (omega (arith, i, l), no_end (lower (least_above (ends && not (is_there goes_on (first us))) (base n.stack) n.load l) x.1));
 }
 
 pub parts : {most : ℕ} {b : Option Terminal} {k m : ℕ} {ts us vs : List Terminal}
@@ -274,11 +285,11 @@ parts s r = record {
 }
 
 -- a terminal that is no bracket leaves the load at the base, or above
-record OnBase (n m : Nesting) : Type 0 where
-  load : base n.stack ≤ m.load
-  stack : m.stack ≡ n.stack
+pub record OnBase (n m : Nesting) : Type 0 where
+  pub load : base n.stack ≤ m.load
+  pub stack : m.stack ≡ n.stack
 
-loose_after : (o c p e chain : Bool) (n x y : Nesting) → not (o || c) ≡ true → base n.stack ≤ n.load
+pub loose_after : (o c p e chain : Bool) (n x y : Nesting) → not (o || c) ≡ true → base n.stack ≤ n.load
     → OnBase n (if c && e then n else (let w = (if o then x else if c then y else if p then (record { load = base n.stack; stack = n.stack }) else n) in record { load = if chain then w.load + 1 else w.load; stack = w.stack }))
 loose_after false false true e true n x y h l = record { load = omega arith; stack = refl }
 loose_after false false true e false n x y h l = record { load = omega arith; stack = refl }
@@ -298,7 +309,7 @@ loose {most} {b} {t = t} {ts} {us} q s = record {
       let k = a.load in
       let x = s.run m (omega (arith, e, k)) h.1 in
       let i = x.0 in
-      (omega (arith, i, e), subst (λ s. Behind most (base n.stack) s us) a.stack (lower (omega (arith, e)) x.1));
+      (omega (arith, i, e), subst (λ s. Behind most false (base n.stack) s us) a.stack (lower (omega (arith, e)) x.1));
 }
 
 -- a `;` sets the load to the base where nothing goes on with the statement
@@ -315,12 +326,12 @@ semicolon_end {most} {b} {p = p} {ts} = record {
   run = λ n l h.
       let m : Nesting = after b (Punct p 6) (first ts) n in
       let e : m.stack ≡ n.stack = semicolon_stack (is_there goes_on (first ts)) n in
-      let x : Behind most (least true ts n) m.stack ts = record { before = Some (Punct p 6); load = m.load; high = semicolon_load (is_there goes_on (first ts)) n; low = h.1 } in
-      (let k = h.0 in omega (arith, k), subst (λ s. Behind most (least true ts n) s ts) e x);
+      let x : Behind most true (least true ts n) m.stack ts = record { before = Some (Punct p 6); calm = λ e. refl; load = m.load; high = semicolon_load (is_there goes_on (first ts)) n; low = h.1 } in
+      (let k = h.0 in omega (arith, k), subst (λ s. Behind most true (least true ts n) s ts) e x);
 }
 
 -- where nothing stands before terminals, there is room for twice as many levels as the highest load says
-whole_is_low : (most : ℕ) (ts : List Terminal) → AreLoadsAtMost most ts → IsLow most None outside ts
+pub whole_is_low : (most : ℕ) (ts : List Terminal) → AreLoadsAtMost most ts → IsLow most None outside ts
 whole_is_low most ts h = (omega arith, low_ones most (loads_of ts) h)
 
 pub whole_nests : {most : ℕ} {ends : Bool} {k : ℕ} {ts us : List Terminal} → AreLoadsAtMost most ts → Nests most ends None k ts us → k ≤ 2 * most + 1

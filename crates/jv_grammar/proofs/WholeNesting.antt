@@ -64,7 +64,7 @@ pub reads_whole_file : FilesNestByTheLoad
 reads_whole_file xs most n u s h l d = reads_file n d (omega (arith, l, deep_in_file xs most u d h)) (few_file (shallow_has_few xs s) d)
 
 -- the highest load of shallow terminals
-at_most_200 : (xs : List Terminal) → IsShallow xs → AreLoadsAtMost 200 xs
+pub at_most_200 : (xs : List Terminal) → IsShallow xs → AreLoadsAtMost 200 xs
 at_most_200 xs s i load = loads_are_low xs i load s
 
 pub reads_shallow_expr : FewLevelsReadExpressions

@@ -3,6 +3,10 @@ pub mod TypeGrammar
 pub mod ExprGrammar
 pub mod StmtGrammar
 pub mod DeclGrammar
+pub mod TypeBegins
+pub mod ExprBegins
+pub mod StmtBegins
+pub mod DeclBegins
 pub mod Reader
 pub mod TypeReader
 pub mod ExprReader
@@ -20,3 +24,6 @@ pub mod NestingLaw
 pub mod ExprExample
 pub mod FileExample
 pub mod Nesting
+pub mod RefusedAt
+pub mod RefusedLaw
+pub mod BeginsExample

@@ -17,6 +17,7 @@ ghost use Rattle.jv_grammar.specs.Law.{
   DerivedEffectsAreEffects,
 };
 ghost use Rattle.jv_grammar.specs.FileExample.{FilesAreToldApart};
+ghost use Rattle.jv_grammar.specs.BeginsExample.{BeginningsAreToldApart};
 ghost use Rattle.jv_grammar.specs.FileLaw.{
   ReadersFindTrees,
   ReadTreesDerive,
@@ -33,6 +34,12 @@ ghost use Rattle.jv_grammar.specs.LoadLaw.{
   ShallowLoadsAreLow,
   FrontsAreShallow,
   ShallowHasFewBrackets,
+};
+ghost use Rattle.jv_grammar.specs.RefusedLaw.{
+  DerivedFilesBegin,
+  FrontsBegin,
+  RefusedFilesAreRefusedThere,
+  RefusedPlaceIsOne,
 };
 ghost use Rattle.jv_grammar.specs.NestingLaw.{
   TypesHaveFewPairs,
@@ -164,4 +171,22 @@ pub fn readers_need_few_levels()
     ensures initializers { FewLevelsReadInitializers }
     ensures statements { FewLevelsReadStatements }
     ensures files { FewLevelsReadFiles }
+{}
+
+/// What derives a file begins one, and so does each front of shallow terminals that begin one.
+pub fn fronts_begin()
+    ensures derived { DerivedFilesBegin }
+    ensures fronts { FrontsBegin }
+{}
+
+/// Where readers that may nest 400 levels deep refuse a terminal of shallow ones, those before it begin a file, and with it
+/// they do not. There is no more than one such place.
+pub fn refused_files_are_refused_there()
+    ensures there { RefusedFilesAreRefusedThere }
+    ensures one { RefusedPlaceIsOne }
+{}
+
+/// Examples: an open class, a field without a name, and a sum that is no statement, though it begins one.
+pub fn beginnings_are_told_apart()
+    ensures { (a b : Identifier) (p q : ℕ) → BeginningsAreToldApart a b p q }
 {}

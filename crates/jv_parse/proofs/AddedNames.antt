@@ -5,9 +5,8 @@ use Rattle.std.proofs.lemmas.List.Elements.{Contains-append_left, Contains-appen
 use Rattle.std.specs.List.{Contains, list_any}
 use Rattle.std.specs.Str.{bytes_eq}
 use Rattle.jv_lex.specs.declared.token.Token.{Token}
-use Rattle.jv_tree.specs.Names.{with_text}
 use Rattle.jv_parse.specs.Naming.{text_of, is_identifier, names_with}
-use Rattle.jv_parse.specs.Parse.{IsIdentifierOf, AddsNames}
+use Rattle.jv_parse.specs.Parse.{AddsNames}
 use Rattle.jv_parse.proofs.Numbers.{names_append, names_one, names_after}
 
 nothing_in : (x : List ℕ) → Contains [] x → ⊥

@@ -1,5 +1,5 @@
 -- That the identifiers of a file are numbered where those of its terminals are.
-use Rattle.std.proofs.Common.{ℕ, List, [], ◌∷◌, Option, Some}
+use Rattle.std.proofs.Common.{ℕ, List, [], Option, Some}
 use Rattle.jv_tree.specs.declared.name.Ident.{Ident as Identifier}
 use Rattle.jv_tree.specs.ExprTree.{ExprTrees}
 use Rattle.jv_tree.specs.StmtTree.{VarTree, StmtTrees}

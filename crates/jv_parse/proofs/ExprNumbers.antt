@@ -10,7 +10,6 @@ use Rattle.jv_grammar.specs.ExprGrammar.{kind_of, literal_tree, DerivesExpr, exp
 use Rattle.jv_tree.specs.ExprTree as t
 use Rattle.jv_grammar.specs.declared.terminal.LiteralKind.{LiteralKind}
 use Rattle.jv_grammar.specs.declared.terminal.LiteralKind.TheVariants.{Int, Long, Char, Str, Bool, Null}
-use Rattle.std.specs.List.{All}
 use Rattle.std.proofs.lemmas.List.Elements.{All-cons, All-nil}
 use Rattle.jv_tree.specs.Numbered.{IsNumberedIdent, IsNumberedName, AreNumberedNames, IsNumberedBase, IsNumberedType, IsNumberedExpr, IsNumberedKind, IsNumberedOperand, IsNumberedInit, AreNumberedExprs, AreNumberedInits, AreNumberedLinks}
 use Rattle.jv_parse.specs.Identifiers.{AreNumberedTerminals}

@@ -8,6 +8,7 @@ use Rattle.jv_tree.specs.Shaped.{IsShaped}
 use Rattle.jv_grammar.specs.declared.terminal.Terminal.{Terminal}
 use Rattle.jv_grammar.specs.DeclGrammar.{Derives}
 use Rattle.jv_grammar.specs.Load.{IsFirstDeep, IsShallow}
+use Rattle.jv_grammar.specs.RefusedAt.{IsRefusedAt}
 use Rattle.jv_parse.specs.declared.parse_fault.ParseFault.{ParseFault}
 use Rattle.jv_parse.specs.declared.parse_fault.ParseFault.TheVariants.{TooDeep, NotInGrammar, OutOfMemory}
 use Rattle.jv_parse.specs.Naming.{text_of, is_identifier, terminal_of}
@@ -28,11 +29,12 @@ pub record HasNoTree (ts : List Terminal) : Type 0 where
   pub shallow : IsShallow ts
   pub none : (u : UnitTree) → Derives ts u → ⊥
 
--- what a result says of the terminals, where memory did not run out
+-- What a result says of the terminals, where memory did not run out. Where no tree derives, the tokens before the refused one begin a file, and
+-- with it they do not.
 abbrev pub Says : List Terminal → Result File ParseFault → Type 0
 Says ts (Ok u) = IsTreeOf ts (tree_of u)
 Says ts (Err (TooDeep i)) = IsFirstDeep ts i
-Says ts (Err (NotInGrammar i)) = (i ≡ 0) × HasNoTree ts
+Says ts (Err (NotInGrammar i)) = HasNoTree ts × IsRefusedAt ts i
 Says ts (Err OutOfMemory) = Unit {0}
 
 -- memory did not run out

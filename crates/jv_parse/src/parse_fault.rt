@@ -7,8 +7,9 @@ pub enum ParseFault {
     /// The source is nested too deep: the load is 201 behind this token, and behind none before it.
     #[error("nested too deep at token {token}")]
     TooDeep { token: u32 },
-    /// The tokens are no file of the grammar. So far the token is always 0.
-    #[error("not in the grammar")]
+    /// The tokens are no file of the grammar: those before this one begin a file, and with it they do not. Where all of
+    /// them begin one, it is the number of tokens: the source ends too soon.
+    #[error("not in the grammar at token {token}")]
     NotInGrammar { token: u32 },
     #[error("out of memory")]
     OutOfMemory,

@@ -6,6 +6,7 @@ ghost use Rattle.jv_tree.specs.DeclTree.{tree_of};
 ghost use Rattle.jv_tree.specs.Identifiers.{idents_unit};
 ghost use Rattle.jv_tree.specs.Numbered.{IsNumbered};
 ghost use Rattle.jv_grammar.specs.Load.{IsFirstDeep};
+ghost use Rattle.jv_grammar.specs.RefusedAt.{IsRefusedAt};
 ghost use Rattle.jv_parse.specs.declared.parse_fault.ParseFault.TheVariants.{TooDeep, NotInGrammar};
 ghost use Rattle.jv_parse.specs.Naming.{names_with};
 ghost use Rattle.jv_parse.specs.Parse.{terminals_of, IsTreeOf, HasNoTree, Says, IsAnswered, AddsNames};
@@ -13,7 +14,10 @@ ghost use Rattle.jv_parse.specs.Parse.{terminals_of, IsTreeOf, HasNoTree, Says, 
 use crate::files::file;
 use crate::naming::name_tokens;
 use crate::parse_fault::ParseFault;
-use jv_grammar::laws::{readers_find_trees, readers_need_few_levels, shallow_files_derive_once};
+use jv_grammar::laws::{
+    readers_find_trees, readers_need_few_levels, refused_files_are_refused_there,
+    shallow_files_derive_once,
+};
 use jv_grammar::{Terminal, first_deep};
 use jv_lex::Token;
 use jv_parse_expr::fault::Fault;
@@ -31,8 +35,9 @@ pub const PARSE_STACK: usize = 1 << 23;
 /// The tree of a source of these tokens, as `lex` gives them (JLS 7.3, in the profile of `docs/JAVA-PROFILE.md`).
 ///
 /// A source is `TooDeep` exactly where its load reaches 201, at the first token behind which it does, whatever else is
-/// wrong with it. Otherwise it is `NotInGrammar` exactly where no tree derives from its tokens, and the token is 0.
-/// `OutOfMemory` comes only where memory runs out, which may be before or after the others are known.
+/// wrong with it. Otherwise it is `NotInGrammar` exactly where no tree derives from its tokens. The token is the first one
+/// with which they no longer begin a file, or their number, where all of them begin one. `OutOfMemory` comes only where
+/// memory runs out, which may be before or after the others are known.
 ///
 /// The texts of identifiers become names. The names that were there keep their numbers, with or without a fault, and
 /// each new one is the text of an identifier of the source. Without a fault of memory all its identifiers are named.
@@ -53,7 +58,7 @@ pub fn parse(
     ensures too_deep { IsAnswered result → (i : ℕ) →
         (result ≡ Err (TooDeep i)) ↔ IsFirstDeep (terminals_of source.now names.new tokens.now) i }
     ensures not_in_grammar { IsAnswered result → (i : ℕ) →
-        (result ≡ Err (NotInGrammar i)) ↔ ((i ≡ 0) × HasNoTree (terminals_of source.now names.new tokens.now)) }
+        (result ≡ Err (NotInGrammar i)) ↔ (HasNoTree (terminals_of source.now names.new tokens.now) × IsRefusedAt (terminals_of source.now names.new tokens.now) i) }
     ensures count { IfOk result (λ u. idents_unit (tree_of u) ≤ length tokens.now) }
     ensures numbered { IfOk result (λ u. IsNumbered (length names.new) (tree_of u)) }
     ensures named { IsAnswered result → names.new ≡ names_with source.now names.old tokens.now }
@@ -74,9 +79,12 @@ fn tree(alloc: Global, terminals: &[Terminal]) -> Result<Unit, ParseFault>
     shallow_files_derive_once();
     readers_find_trees();
     readers_need_few_levels();
+    refused_files_are_refused_there();
     match file(alloc, LEVELS, terminals) {
         Ok(unit) => Ok(unit),
         Err(Fault::OutOfMemory) => Err(ParseFault::OutOfMemory),
-        Err(Fault::Refused(_)) => Err(ParseFault::NotInGrammar { token: 0 }),
+        Err(Fault::Refused(left)) => Err(ParseFault::NotInGrammar {
+            token: (terminals.len() - left) as u32,
+        }),
     }
 }

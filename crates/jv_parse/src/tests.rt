@@ -1,3 +1,4 @@
 mod nesting;
+mod places;
 mod shown;
 mod sources;

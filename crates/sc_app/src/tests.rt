@@ -194,7 +194,7 @@ const FAULTS: [Row; 4] = [
     ),
     (
         &[("A.java", "class A { int f( }")],
-        "A.java:1:1: E02 syntax error\nerrors 1\n",
+        "A.java:1:18: E02 syntax error\nerrors 1\n",
     ),
     (
         &[

@@ -168,7 +168,7 @@ bounded (not_utf8 n v) = record { more = omega arith; few = omega arith; within 
 bounded (bad_literal h) = record { more = omega arith; few = omega arith; within = tt }
 bounded (bad_token h) = record { more = omega arith; few = omega arith; within = tt }
 bounded {bytes} {old} (too_deep {ts} t d s) = record { more = names_more bytes old ts; few = named_few bytes old ts t; within = tt }
-bounded {bytes} {old} (no_tree {ts} t n) = record { more = names_more bytes old ts; few = named_few bytes old ts t; within = tt }
+bounded {bytes} {old} (no_tree {ts} t n r) = record { more = names_more bytes old ts; few = named_few bytes old ts t; within = tt }
 bounded {bytes} {old} (parsed {ts} {u} t is) =
     let names : List (List ℕ) = names_with bytes old ts in
     let terminals : length (terminals_of bytes names ts) ≡ length ts = length-map ts (terminal_of bytes names) in

@@ -6,12 +6,13 @@ use Rattle.jv_lex.specs.declared.token.Token.{Token}
 use Rattle.jv_tree.specs.declared.declaration.Unit.{Unit as File}
 use Rattle.jv_tree.specs.DeclTree.{UnitTree}
 use Rattle.jv_grammar.specs.declared.terminal.Terminal.{Terminal}
+use Rattle.jv_grammar.specs.RefusedAt.{IsRefusedAt}
 use Rattle.jv_grammar.specs.Load.{IsFirstDeep, Nesting, loads_from, loads_of, outside}
 use Rattle.jv_parse.specs.declared.parse_fault.ParseFault.{ParseFault}
 use Rattle.jv_parse.specs.declared.parse_fault.ParseFault.TheVariants.{TooDeep, NotInGrammar}
 use Rattle.jv_parse.specs.Naming.{names_with, terminal_of}
 use Rattle.jv_parse.specs.Parse.{HasNoTree, IsTreeOf, IsAnswered, terminals_of}
-use Rattle.sc_sources.specs.Sources.{tree, fault, Reads, too_deep, no_tree, parsed}
+use Rattle.sc_sources.specs.Sources.{tree, fault, start_of, Reads, too_deep, no_tree, parsed}
 
 pub ok_answered : (u : File) → IsAnswered (Ok u)
 ok_answered u h = cc
@@ -27,7 +28,7 @@ abbrev pub SaysDeep : List Terminal → Result File ParseFault → Type 0
 SaysDeep ts r = IsAnswered r → (i : ℕ) → (r ≡ Err (TooDeep i)) ↔ IsFirstDeep ts i
 
 abbrev pub SaysNone : List Terminal → Result File ParseFault → Type 0
-SaysNone ts r = IsAnswered r → (i : ℕ) → (r ≡ Err (NotInGrammar i)) ↔ ((i ≡ 0) × HasNoTree ts)
+SaysNone ts r = IsAnswered r → (i : ℕ) → (r ≡ Err (NotInGrammar i)) ↔ (HasNoTree ts × IsRefusedAt ts i)
 
 module _ (f : ParseFault) (i : ℕ) where
   pub answered_deep : f ≡ TooDeep i → IsAnswered (Err f)
@@ -39,8 +40,8 @@ module _ (f : ParseFault) (i : ℕ) where
   pub deep_of : (ts : List Terminal) → f ≡ TooDeep i → SaysDeep ts (Err f) → IsFirstDeep ts i
   deep_of ts e h = (h (answered_deep e) i).0 (ap (λ (z : ParseFault). Err z) e)
 
-  pub none_of : (ts : List Terminal) → f ≡ NotInGrammar i → SaysNone ts (Err f) → HasNoTree ts
-  none_of ts e h = ((h (answered_none e) i).0 (ap (λ (z : ParseFault). Err z) e)).1
+  pub none_of : (ts : List Terminal) → f ≡ NotInGrammar i → SaysNone ts (Err f) → HasNoTree ts × IsRefusedAt ts i
+  none_of ts e h = (h (answered_none e) i).0 (ap (λ (z : ParseFault). Err z) e)
 
 loads_count : (before : Option Terminal) (n : Nesting) (ts : List Terminal) → length (loads_from before n ts) ≡ length ts
 loads_count before n [] = refl
@@ -75,7 +76,8 @@ module _ (source : List ℕ) (old new : List (List ℕ)) (ts : List Token) (t : 
       subst (λ (ns : List (List ℕ)). Reads source old ns (fault x.start 4)) (sym named)
       (too_deep t (subst (λ (ns : List (List ℕ)). IsFirstDeep (terminals_of source ns ts) i) named f) e)
 
-  pub none_comes : HasNoTree (terminals_of source new ts) → Reads source old new (fault 0 2)
-  none_comes n =
-      subst (λ (ns : List (List ℕ)). Reads source old ns (fault 0 2)) (sym named)
-      (no_tree t (subst (λ (ns : List (List ℕ)). HasNoTree (terminals_of source ns ts)) named n))
+  pub none_comes : (i : ℕ) → HasNoTree (terminals_of source new ts) × IsRefusedAt (terminals_of source new ts) i → Reads source old new (fault (start_of source (slice_get ts i)) 2)
+  none_comes i n =
+      let there : HasNoTree (terminals_of source (names_with source old ts) ts) × IsRefusedAt (terminals_of source (names_with source old ts) ts) i =
+      subst (λ (ns : List (List ℕ)). HasNoTree (terminals_of source ns ts) × IsRefusedAt (terminals_of source ns ts) i) named n in
+      subst (λ (ns : List (List ℕ)). Reads source old ns (fault (start_of source (slice_get ts i)) 2)) (sym named) (no_tree t there.0 there.1)

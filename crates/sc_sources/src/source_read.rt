@@ -1,8 +1,8 @@
 //! One source: its tokens, and then its tree, or its first fault.
 
-ghost use Rattle.std.specs.Prelude.{◌≡◌, ℕ, ◌+◌, ◌<◌, ◌≤◌, List, All, length, IfOk};
+ghost use Rattle.std.specs.Prelude.{◌≡◌, ℕ, ◌+◌, ◌<◌, ◌≤◌, ◌^◌, List, All, length, slice_get, IfOk};
 ghost use Rattle.jv_lex.specs.Source.{IsPlaced, Tokenizes, IsFaultOf};
-ghost use Rattle.sc_sources.specs.Sources.{Reads};
+ghost use Rattle.sc_sources.specs.Sources.{start_of, Reads};
 ghost use Rattle.sc_sources.specs.Reading.{outcome_of, IsPlain};
 
 use jv_lex::{LexFault, Token, lex};
@@ -77,6 +77,7 @@ fn read_tokens(
     tokens: &[Token],
     names: &mut Names,
 ) -> Result<SourceRead, AllocError>
+    requires size { length source.now ≤ 1048576 }
     requires tokens { Tokenizes source.now tokens.now }
     requires placed { All (IsPlaced source.now) tokens.now }
     requires room { length names.old + length tokens.now < u32.MAX }
@@ -89,10 +90,21 @@ fn read_tokens(
             at: tokens[token as usize].start,
             code: TOO_DEEP,
         }),
-        Err(ParseFault::NotInGrammar { .. }) => Ok(SourceRead::Fault {
-            at: 0,
+        Err(ParseFault::NotInGrammar { token }) => Ok(SourceRead::Fault {
+            at: start_of(source, tokens, token),
             code: NO_TREE,
         }),
         Err(ParseFault::OutOfMemory) => Err(AllocError),
+    }
+}
+
+// Where the token of a number starts, or where there is none the end of the source.
+fn start_of(source: &str, tokens: &[Token], number: u32) -> u32
+    requires { length source.now < 2 ^ 32 }
+    ensures { result ≡ start_of source.now (slice_get tokens.now number) }
+{
+    match tokens.get(number as usize) {
+        Some(token) => token.start,
+        None => source.len() as u32,
     }
 }

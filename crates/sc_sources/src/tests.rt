@@ -65,7 +65,7 @@ fn shown(alloc: Global, sources: &[&[u8]]) -> Result<String, Fail> {
 
 // The prelude has 14 names: `java`, `lang`, `Object`, `equals`, `o`, `hashCode`, `String`, `toString`, `length`,
 // `charAt`, `i`, `isEmpty`, `concat` and `s`.
-const FOLDERS: [(&[&[u8]], &str); 10] = [
+const FOLDERS: [(&[&[u8]], &str); 13] = [
     (&[], "2 trees, 14 names"),
     (&[b"class A {}"], "3 trees, 15 names"),
     (
@@ -73,7 +73,10 @@ const FOLDERS: [(&[&[u8]], &str); 10] = [
         "4 trees, 16 names",
     ),
     (&[b"class A {} \xFF"], "2:11: 1 not UTF-8; "),
-    (&[b"class A { int f( }"], "2:0: 2 syntax error; "),
+    (&[b"class A { int f( }"], "2:17: 2 syntax error; "),
+    (&[b"class A {"], "2:9: 2 syntax error; "),
+    (&[b"class A { // end\n"], "2:17: 2 syntax error; "),
+    (&[b"/* \xC3\xBC */ enum A {}"], "2:9: 2 syntax error; "),
     (
         &[b"class A { int a = 2147483648; }"],
         "2:18: 3 bad literal; ",
@@ -82,7 +85,7 @@ const FOLDERS: [(&[&[u8]], &str); 10] = [
     (&[b"class A { # }"], "2:10: 5 bad token; "),
     (
         &[b"class A {} \xFF", b"class B {}", b"class C {"],
-        "2:11: 1 not UTF-8; 4:0: 2 syntax error; ",
+        "2:11: 1 not UTF-8; 4:9: 2 syntax error; ",
     ),
     (&[b"class A {}", b"#", b"class C {}"], "3:0: 5 bad token; "),
 ];

@@ -25,8 +25,7 @@ fn shown(alloc: Global, source: &str) -> Result<String, Fail>
     match parse(alloc, source, &tokens, &mut names) {
         Ok(unit) => write_unit(alloc, &mut text, &names, &unit)?,
         Err(ParseFault::TooDeep { token }) => write!(text, "deep {token}")?,
-        Err(ParseFault::NotInGrammar { token: 0 }) => text.push_str("no")?,
-        Err(ParseFault::NotInGrammar { token }) => write!(text, "no {token}")?,
+        Err(ParseFault::NotInGrammar { .. }) => text.push_str("no")?,
         Err(ParseFault::OutOfMemory) => text.push_str("memory")?,
     }
     Ok(text)

@@ -1,11 +1,13 @@
-use Rattle.std.proofs.Common.{◌≡◌, ℕ, List, [], length, sym, ap, ◌∙◌, subst}
+use Rattle.std.proofs.Common.{◌≡◌, ◌↔◌, ℕ, List, [], length, Err, sym, ap, ◌∙◌, subst}
 use Rattle.std.proofs.lemmas.List.{append-nil, length-map}
 use Rattle.jv_lex.specs.declared.token.Token.{Token}
+use Rattle.jv_grammar.specs.RefusedAt.{IsRefusedAt}
 use Rattle.jv_parse.specs.Naming.{terminal_of}
 use Rattle.jv_parse.specs.Identifiers.{AreNumberedTerminals}
-use Rattle.jv_parse.specs.Parse.{terminals_of}
+use Rattle.jv_parse.specs.declared.parse_fault.ParseFault.TheVariants.{NotInGrammar}
+use Rattle.jv_parse.specs.Parse.{terminals_of, HasNoTree, IsAnswered}
 use Rattle.jv_parse.proofs.Numbers.{numbered_terminals}
-use Rattle.jv_parse.proofs.Answered.{few_identifiers, numbered_tree}
+use Rattle.jv_parse.proofs.Answered.{few_identifiers, numbered_tree, says_none}
 use Rattle.jv_parse.proofs.AddedNames.{adds_front}
 use Rattle.jv_parse.proofs.parser.parse.Goals as goal
 
@@ -17,6 +19,12 @@ returns-in_err-terminals-clause-names c =
 pub returns-clause-names : goal.returns-clause-names
 returns-clause-names c =
     adds_front c.args.source.now c.args.tokens.now c.args.tokens.now [] c.args.names.now c.name_tokens.new.names (sym (append-nil c.args.tokens.now)) c.in_ok-terminals.ensures.named
+
+pub returns-clause-not_in_grammar : goal.returns-clause-not_in_grammar
+returns-clause-not_in_grammar c =
+    let terminals : c.deref.result.now ≡ terminals_of c.args.source.now c.name_tokens.new.names c.args.tokens.now = c.deref.ensures.value ∙ c.in_ok-terminals.ensures.terminals in
+    subst (λ ts. IsAnswered c.tree.result → (i : ℕ) → (c.tree.result ≡ Err (NotInGrammar i)) ↔ (HasNoTree ts × IsRefusedAt ts i)) terminals
+    (λ a i. says_none c.deref.result.now c.tree.result i c.tree.ensures a)
 
 pub returns-clause-count : goal.returns-clause-count
 returns-clause-count c =

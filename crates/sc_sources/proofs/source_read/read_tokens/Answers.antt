@@ -1,10 +1,11 @@
-use Rattle.std.proofs.Common.{ℕ, ◌<◌, List, length, get_or}
+use Rattle.std.proofs.Common.{ℕ, ◌<◌, List, length, get_or, sym, subst}
 use Rattle.std.proofs.lemmas.Option.{slice_get-get_or}
 use Rattle.jv_lex.specs.declared.token.Token.{Token}
 use Rattle.jv_lex.specs.declared.token.TokenKind.TheVariants as k
 use Rattle.jv_tree.specs.DeclTree.{tree_of}
 use Rattle.jv_grammar.specs.Load.{IsFirstDeep}
 use Rattle.jv_parse.specs.Parse.{terminals_of}
+use Rattle.sc_sources.specs.Sources.{fault, Reads}
 use Rattle.sc_sources.proofs.OneSource.{ok_answered, answered_deep, answered_none, deep_of, none_of, deep_below, tree_comes, deep_comes, none_comes}
 use Rattle.sc_sources.proofs.source_read.read_tokens.Goals as goal
 
@@ -31,5 +32,6 @@ returns-in-Err-TooDeep-clause-reads c =
 pub returns-in-Err-NotInGrammar-clause-reads : goal.returns-in-Err-NotInGrammar-clause-reads
 returns-in-Err-NotInGrammar-clause-reads c =
     let f : _ = c.in-Err-NotInGrammar in
-    none_comes c.args.source.now c.args.names.now c.parse.new.names c.args.tokens.now c.requires.tokens (f.ensures.named (answered_none f.field-0 f.field-0-0 f.field-0-is))
-    (none_of f.field-0 f.field-0-0 (terminals_of c.args.source.now c.parse.new.names c.args.tokens.now) f.field-0-is f.ensures.not_in_grammar)
+    subst (λ at. Reads c.args.source.now c.args.names.now c.parse.new.names (fault at 2)) (sym c.start_of.ensures)
+    (none_comes c.args.source.now c.args.names.now c.parse.new.names c.args.tokens.now c.requires.tokens (f.ensures.named (answered_none f.field-0 f.token f.field-0-is)) f.token
+    (none_of f.field-0 f.token (terminals_of c.args.source.now c.parse.new.names c.args.tokens.now) f.field-0-is f.ensures.not_in_grammar))
