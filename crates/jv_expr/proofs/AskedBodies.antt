@@ -1,5 +1,5 @@
 -- All that is checked of members' bodies asks queries of the layout, whatever the answers.
-use Rattle.std.proofs.Common.{ℕ, false, List, [], ◌∷◌, All, Option, Some, None, IfSome}
+use Rattle.std.proofs.Common.{ℕ, false, List, [], ◌∷◌, ◌++◌, All, Option, Some, None, IfSome}
 use Rattle.std.proofs.lemmas.List.Elements.{All-nil, All-cons, All-head, All-tail}
 use Rattle.sg_base.specs.declared.scope.Scope.{Scope}
 use Rattle.sg_reading.specs.Reading.{done, and_then}
@@ -10,7 +10,7 @@ use Rattle.jv_layout.specs.Linked.{IsLinked}
 use Rattle.jv_layout.specs.Readers.{is_static_of}
 use Rattle.jv_tree.specs.declared.name.Ident.{Ident}
 use Rattle.jv_tree.specs.ExprTree.{ExprTrees, InitTree}
-use Rattle.jv_tree.specs.StmtTree.{StmtTrees}
+use Rattle.jv_tree.specs.StmtTree.{StmtTrees, no_stmts, stmts}
 use Rattle.jv_tree.specs.DeclTree.{ParamTree, MethodTree, CtorTree}
 use Rattle.jv_tree.specs.Numbered.{AreNumberedNames, AreNumberedStmts, IsNumberedBody, IsNumberedCall, IsNumberedCtor, IsNumberedOption}
 use Rattle.jv_types.specs.Operators.{bad_type, is_void}
@@ -25,11 +25,11 @@ use Rattle.jv_expr.specs.Bounds.{ConstructorsAskIn, FieldsAskIn, IsAnything, IsS
 use Rattle.jv_expr.specs.Calls.{super_called}
 use Rattle.jv_expr.specs.Fields.{result_of}
 use Rattle.jv_expr.specs.Site.{SiteOf}
-use Rattle.jv_expr.specs.Statements.{Scoped, all_checked, declared}
+use Rattle.jv_expr.specs.Statements.{Scoped, checked, declared}
 use Rattle.jv_expr.specs.Typed.{arguments_typed, init_typed}
 use Rattle.jv_expr.proofs.AskedCalls.{IsArgumentIn, IsSignatureIn, super_called_asks}
 use Rattle.jv_expr.proofs.AskedFields.{result_in}
-use Rattle.jv_expr.proofs.AskedStatements.{IsScopedIn, all_asks, declared_in}
+use Rattle.jv_expr.proofs.AskedStatements.{IsScopedIn, checked_asks, declared_in}
 use Rattle.jv_expr.proofs.AskedSteps.{cond_keeps, done_asks, then_asks}
 use Rattle.jv_expr.proofs.AskedTyped.{AreFirstArgumentsIn, arguments_asks, init_asks}
 use Rattle.jv_expr.proofs.AskedVariables.{AreLocalsIn, IsLocalIn}
@@ -85,9 +85,10 @@ module _ (l : LayoutOf) (count : ℕ) (names : List (List ℕ)) (c : Scope) (ext
 
   module _ (site : SiteOf) (place : IsSiteIn count site) where
     statements_ask : (xs : StmtTrees) (s : Scoped) → IsScopedIn site.layout s → AreNumberedStmts count xs → AsksIn site.layout count IsAnything (statements_checked site xs s)
-    statements_ask xs s h n =
-        then_asks site.layout count (IsScopedIn site.layout) IsAnything (all_checked site false xs s.0 s.1) (λ t. done t.1) (all_asks site count place false xs s.0 s.1 h n)
-        (λ t e. done_asks site.layout count IsAnything t.1 tt)
+    statements_ask no_stmts s h n = done_asks site.layout count IsAnything s.1 tt
+    statements_ask (stmts x xs) s h n =
+        then_asks site.layout count (IsScopedIn site.layout) IsAnything (checked site false x s.0 []) (λ t. statements_checked site xs (t.0, s.1 ++ t.1)) (checked_asks site count place false x s.0 [] h n.0)
+        (λ t e. statements_ask xs (t.0, s.1 ++ t.1) e n.1)
 
     super_asks : (o : Option (ℕ × ExprTrees)) (s : Scoped) → IsScopedIn site.layout s → IsNumberedCall count o → AsksIn site.layout count (IsScopedIn site.layout) (super_checked site o s)
     super_asks None s h n = done_asks site.layout count (IsScopedIn site.layout) s h

@@ -96,7 +96,7 @@ module _ (site : SiteOf) (count : ℕ) (is : IsSiteIn count site) where
   -- ---- statements
 
   mutual
-    checked_asks : (loop : Bool) (x : StmtTree) (vs : List Local) (ds : List DiagOf) → AreLocalsIn L vs → IsNumberedStmt count x → AsksIn L count S (checked site loop x vs ds)
+    pub checked_asks : (loop : Bool) (x : StmtTree) (vs : List Local) (ds : List DiagOf) → AreLocalsIn L vs → IsNumberedStmt count x → AsksIn L count S (checked site loop x vs ds)
     checked_asks loop (stmt at (block xs)) vs ds h n = left_asks vs h (all_checked site loop xs vs ds) (all_asks loop xs vs ds h n)
     checked_asks loop (stmt at empty) vs ds h n = done_asks L count S (vs, ds) h
     checked_asks loop (stmt at (local f t xs)) vs ds h n =
@@ -117,7 +117,7 @@ module _ (site : SiteOf) (count : ℕ) (is : IsSiteIn count site) where
     checked_asks loop (stmt at break) vs ds h n = done_asks L count S (vs, in_loop site at loop ds) h
     checked_asks loop (stmt at continue) vs ds h n = done_asks L count S (vs, in_loop site at loop ds) h
 
-    pub all_asks : (loop : Bool) (xs : StmtTrees) (vs : List Local) (ds : List DiagOf) → AreLocalsIn L vs → AreNumberedStmts count xs → AsksIn L count S (all_checked site loop xs vs ds)
+    all_asks : (loop : Bool) (xs : StmtTrees) (vs : List Local) (ds : List DiagOf) → AreLocalsIn L vs → AreNumberedStmts count xs → AsksIn L count S (all_checked site loop xs vs ds)
     all_asks loop no_stmts vs ds h n = done_asks L count S (vs, ds) h
     all_asks loop (stmts x xs) vs ds h n = then_asks L count S S (checked site loop x vs ds) _ (checked_asks loop x vs ds h n.0) (λ s e. all_asks loop xs s.0 s.1 e n.1)
 

@@ -1,76 +1,188 @@
 -- The places of members, and what is checked there.
-use Rattle.std.proofs.Common.{◌≡◌, ℕ, List, [], ◌∷◌, Option, None, Result, subst}
+use Rattle.std.proofs.Common.{◌≡◌, ℕ, List, [], ◌∷◌, Option, Some, None, IfSome, Result, Ok, Err, IfOk, refl, sym, ap, ◌∙◌, subst}
+use Rattle.std.specs.Result.{IsErrAnd}
 use Rattle.sg_base.specs.declared.scope.Scope.{Scope}
 use Rattle.sg_query.specs.declared.answer.Answer.{Answer}
 use Rattle.sg_query.specs.declared.query.Query.{Query}
 use Rattle.sg_reading.specs.declared.stop.Stop.{Stop}
-use Rattle.sg_reading.specs.Reading.{and_then}
+use Rattle.sg_reading.specs.declared.stop.Stop.TheVariants.{OutOfMemory}
+use Rattle.sg_reading.specs.Progress.{Reaches}
 use Rattle.sg_reading.specs.Stop.{Reads}
+use Rattle.sg_reading.proofs.Progress.{reaches_behind, reaches_here, reaches_on, reaches_reads}
+use Rattle.sg_reading.proofs.Steps.{memory_reads, reading_steps, then_err, then_ok}
 use Rattle.jv_diag.specs.Plain.{DiagOf}
 use Rattle.jv_instance.specs.declared.datum.JavaDatum.{JavaDatum}
 use Rattle.jv_instance.specs.declared.pred.JavaPred.{JavaPred}
 use Rattle.jv_instance.specs.declared.ty.Ty.{Ty}
 use Rattle.jv_layout.specs.Folder.{LayoutOf}
 use Rattle.jv_tree.specs.declared.name.Ident.{Ident}
-use Rattle.jv_tree.specs.ExprTree.{ExprTrees, InitTree}
+use Rattle.jv_tree.specs.ExprTree.{InitTree}
 use Rattle.jv_tree.specs.StmtTree.{StmtTrees}
 use Rattle.jv_tree.specs.DeclTree.{ParamTree, CtorTree}
 use Rattle.jv_names.specs.Instances.{instance_bodies}
-use Rattle.jv_names.specs.Read.{SignatureOf}
+use Rattle.jv_names.specs.Read.{SignatureOf, signature_of}
+use Rattle.jv_names.specs.Replies.{Rule}
+use Rattle.jv_expr.specs.declared.begun_body.BegunBody.{BegunBody}
 use Rattle.jv_expr.specs.declared.local.Local.{Local}
-use Rattle.jv_expr.specs.Bodies.{body_by, call_site, ctor_body, given_result, member_instances, member_site, param_types, params_declared, statements_checked, super_checked}
+use Rattle.jv_expr.specs.Bodies.{body_by, ctor_body, ctor_call, ctor_rule, given_result, member_instances, member_site, param_types, params_declared, statements_checked, statements_rule, super_checked}
 use Rattle.jv_expr.specs.Fields.{result_of}
+use Rattle.jv_expr.specs.Progress.{IsBegun, begun_scope, behind, ctor_statements_left, left_of, method_statements_left, statements_left}
 use Rattle.jv_expr.specs.Site.{SiteOf}
 use Rattle.jv_expr.specs.Statements.{Scoped}
 use Rattle.jv_expr.specs.Typed.{init_typed}
 use Rattle.jv_expr.proofs.StatementEnds.{end_steps}
+use Rattle.jv_expr.proofs.TopSteps.{begun_left}
 
-module _ (reply : Query JavaPred → Option (Answer JavaDatum)) (r : Result (List DiagOf) (Stop (Query JavaPred))) where
-  -- statements behind what was declared
-  pub behind_case : (site : SiteOf) (xs : StmtTrees) (s : Scoped) (vs : List Local) (ds : List DiagOf) → ◌≡◌ {A = Scoped} (vs, ds) s → Reads reply (statements_checked site xs (vs, ds)) r → Reads reply (statements_checked site xs s) r
-  behind_case site xs s vs ds is h = subst (λ (s : Scoped). Reads reply (statements_checked site xs s) r) is h
+-- ---- results
 
-  -- a constructor behind its parameters
-  pub parts_case : (here there : SiteOf) (call : Option (ℕ × ExprTrees)) (xs : StmtTrees) (s : Scoped) (vs : List Local) (ds : List DiagOf) → ◌≡◌ {A = Scoped} (vs, ds) s
-      → Reads reply (and_then (super_checked here call (vs, ds)) (λ t. statements_checked there xs t)) r → Reads reply (and_then (super_checked here call s) (λ t. statements_checked there xs t)) r
-  parts_case here there call xs s vs ds is h = subst (λ (s : Scoped). Reads reply (and_then (super_checked here call s) (λ t. statements_checked there xs t)) r) is h
+if_ok : {A E : Type 0} (P Q : A → Type 0) (r : Result A E) → ((x : A) → P x → Q x) → IfOk r P → IfOk r Q
+if_ok P Q (Ok x) f h = f x h
+if_ok P Q (Err e) f h = tt
+
+if_some : {A : Type 0} (P Q : A → Type 0) (o : Option A) → ((x : A) → P x → Q x) → IfSome o P → IfSome o Q
+if_some P Q None f h = tt
+if_some P Q (Some x) f h = f x h
+
+-- where nothing was begun
+pub none_begun : (P : BegunBody → Type 0) (o : Option BegunBody) → o ≡ None → IfSome o P
+none_begun P o e = subst (λ (z : Option BegunBody). IfSome z P) (sym e) tt
+
+module _ (reply : Query JavaPred → Option (Answer JavaDatum)) where
+  -- how a call ends that begins a body
+  module _ (r : Rule Scoped) (e : Stop (Query JavaPred)) (x : Result BegunBody (Stop (Query JavaPred))) (is : IsErrAnd x (λ y. y ≡ e)) where
+    pub begun_stops : Reads {U = Scoped} reply r (Err e) → Reads reply r (begun_scope x)
+    begun_stops h = by x is
+      where
+        by : (x : Result BegunBody (Stop (Query JavaPred))) → IsErrAnd x (λ y. y ≡ e) → Reads reply r (begun_scope x)
+        by (Ok b) k = absurd k
+        by (Err y) k = subst (λ (z : Stop (Query JavaPred)). Reads {U = Scoped} reply r (Err z)) (sym k) h
+
+    pub begun_memory : e ≡ OutOfMemory → Reads reply r (begun_scope x)
+    begun_memory h = begun_stops (subst (λ (z : Stop (Query JavaPred)). Reads {U = Scoped} reply r (Err z)) (sym h) (memory_reads reply r))
+
+  -- ---- a rule, and what is left of it
+
+  module _ (all : Rule (List DiagOf)) (rest : BegunBody → Rule (List DiagOf)) where
+    pub kept : (o : Option BegunBody) → IfSome o (λ b. Reaches reply all (rest b)) → Reaches reply all (left_of all rest o)
+    kept None h = reaches_here reply all all refl
+    kept (Some b) h = h
+
+    module _ (o : Option BegunBody) (b : BegunBody) (is : o ≡ Some b) (reached : Reaches reply all (left_of all rest o)) where
+      reached_begun : Reaches reply all (rest b)
+      reached_begun = subst (λ (z : Option BegunBody). Reaches reply all (left_of all rest z)) is reached
+
+      pub begun_reads : (x : Result (List DiagOf) (Stop (Query JavaPred))) → Reads reply (rest b) x → Reads reply all x
+      begun_reads x h = reaches_reads reply all (rest b) x reached_begun h
+
+      pub begun_goes_on : (p : Option BegunBody) → IfSome p (λ c. Reaches reply (rest b) (rest c)) → Reaches reply all (left_of all rest p)
+      begun_goes_on p h = kept p (if_some (λ c. Reaches reply (rest b) (rest c)) (λ c. Reaches reply all (rest c)) p (λ c k. reaches_on reply all (rest b) (rest c) reached_begun k) h)
 
   module _ (l : LayoutOf) (names : List (List ℕ)) (c : Scope) (extends : List (List Ident)) where
-    module _ (m : Scope) (s : Option SignatureOf) (instances : List Scope) (own : instances ≡ member_instances l c m) (site : SiteOf) where
-      -- an initializer, at a place that was made
-      pub init_case : (t : Ty) (x : InitTree) → t ≡ result_of s → site ≡ member_site l names c extends instances [] None → Reads reply (init_typed site [] t x []) r
-          → Reads reply (init_typed (member_site l names c extends (member_instances l c m) [] None) [] (result_of s) x []) r
-      init_case t x found made h =
-          subst (λ (t : Ty). Reads reply (init_typed (member_site l names c extends (member_instances l c m) [] None) [] t x []) r) found
-          (subst (λ (is : List Scope). Reads reply (init_typed (member_site l names c extends is [] None) [] t x []) r) own
-          (subst (λ (site : SiteOf). Reads reply (init_typed site [] t x []) r) made h))
+    -- ---- initializers
 
-      -- the body of a method, at a place that was made
-      pub body_case : (ps : List ParamTree) (ts : List Ty) (xs : StmtTrees) (given : Option Ty) → given ≡ given_result s → ts ≡ param_types s → site ≡ member_site l names c extends instances [] given
-          → Reads reply (statements_checked site xs (params_declared site ps ts [] [])) r → Reads reply (body_by l names c extends m ps xs s) r
-      body_case ps ts xs given result types made h =
-          subst (λ (given : Option Ty). Reads reply (statements_checked (member_site l names c extends (member_instances l c m) [] given) xs (params_declared (member_site l names c extends (member_instances l c m) [] given) ps (param_types s) [] [])) r) result
-          (subst (λ (is : List Scope). Reads reply (statements_checked (member_site l names c extends is [] given) xs (params_declared (member_site l names c extends is [] given) ps (param_types s) [] [])) r) own
-          (subst (λ (ts : List Ty). Reads reply (statements_checked (member_site l names c extends instances [] given) xs (params_declared (member_site l names c extends instances [] given) ps ts [] [])) r) types
-          (subst (λ (site : SiteOf). Reads reply (statements_checked site xs (params_declared site ps ts [] [])) r) made h)))
+    -- an initializer, at a place that was made
+    pub init_case : (r : Result (List DiagOf) (Stop (Query JavaPred))) (m : Scope) (s : Option SignatureOf) (instances : List Scope) → instances ≡ member_instances l c m → (site : SiteOf) (t : Ty) (x : InitTree) → t ≡ result_of s
+        → site ≡ member_site l names c extends instances [] None → Reads reply (init_typed site [] t x []) r → Reads reply (init_typed (member_site l names c extends (member_instances l c m) [] None) [] (result_of s) x []) r
+    init_case r m s instances own site t x found made h =
+        subst (λ (q : Rule (List DiagOf)). Reads reply q r) (λ i. init_typed ((made ∙ ap (λ (is : List Scope). member_site l names c extends is [] None) own) i) [] (found i) x []) h
 
-    -- a constructor, at the places that were made
-    pub ctor_case : (blanks : List Scope) (d : CtorTree) (s : Option SignatureOf) (outer inner : List Scope) (here there : SiteOf) (ts : List Ty) → outer ≡ instance_bodies l c → inner ≡ c ∷ instance_bodies l c → ts ≡ param_types s
-        → here ≡ member_site l names c extends outer [] None → there ≡ member_site l names c extends inner blanks None
-        → Reads reply (and_then (super_checked here d.call (params_declared here d.params ts [] [])) (λ t. statements_checked there d.body t)) r → Reads reply (ctor_body l names c extends blanks d s) r
-    ctor_case blanks d s outer inner here there ts around own types made made' h =
-        subst (λ (is : List Scope). Reads reply (and_then (super_checked (call_site l names c extends) d.call (params_declared (call_site l names c extends) d.params (param_types s) [] [])) (λ t. statements_checked (member_site l names c extends is blanks None) d.body t)) r) own
-        (subst (λ (is : List Scope). Reads reply (and_then (super_checked (member_site l names c extends is [] None) d.call (params_declared (member_site l names c extends is [] None) d.params (param_types s) [] [])) (λ t. statements_checked (member_site l names c extends inner blanks None) d.body t)) r) around
-        (subst (λ (ts : List Ty). Reads reply (and_then (super_checked (member_site l names c extends outer [] None) d.call (params_declared (member_site l names c extends outer [] None) d.params ts [] [])) (λ t. statements_checked (member_site l names c extends inner blanks None) d.body t)) r) types
-        (subst (λ (there : SiteOf). Reads reply (and_then (super_checked (member_site l names c extends outer [] None) d.call (params_declared (member_site l names c extends outer [] None) d.params ts [] [])) (λ t. statements_checked there d.body t)) r) made'
-        (subst (λ (here : SiteOf). Reads reply (and_then (super_checked here d.call (params_declared here d.params ts [] [])) (λ t. statements_checked there d.body t)) r) made h))))
+    -- ---- methods
+
+    module _ (m : Scope) (xs : StmtTrees) where
+      abbrev left : BegunBody → Rule (List DiagOf)
+      left b = method_statements_left l names c extends m xs b
+
+      module _ (instances : List Scope) (own : instances ≡ member_instances l c m) (site : SiteOf) (b : BegunBody) (made : site ≡ member_site l names c extends instances [] b.result) where
+        at_site : (d : BegunBody) → d.result ≡ b.result → statements_left site xs d ≡ left d
+        at_site d same = λ i. statements_left ((made ∙ (λ j. member_site l names c extends (own j) [] (sym same j))) i) xs d
+
+        pub method_case : (r : Result (List DiagOf) (Stop (Query JavaPred))) → Reads reply (statements_left site xs b) r → Reads reply (left b) r
+        method_case r h = subst (λ (q : Rule (List DiagOf)). Reads reply q r) (at_site b refl) h
+
+        pub method_goes_on : (o : Option BegunBody) → IfSome o (λ d. (d.result ≡ b.result) × Reaches reply (statements_left site xs b) (statements_left site xs d)) → IfSome o (λ d. Reaches reply (left b) (left d))
+        method_goes_on o h =
+            if_some (λ d. (d.result ≡ b.result) × Reaches reply (statements_left site xs b) (statements_left site xs d)) (λ d. Reaches reply (left b) (left d)) o
+            (λ d k. subst (λ (q : Rule (List DiagOf)). Reaches reply q (left d)) (at_site b refl) (subst (λ (q : Rule (List DiagOf)). Reaches reply (statements_left site xs b) q) (at_site d k.0) k.1)) h
+
+      -- from the start, behind the signature
+      module _ (ps : List ParamTree) (s : Option SignatureOf) (signed : Reads reply (signature_of l m) (Ok s)) (b : BegunBody) (begun : (ys : StmtTrees) → method_statements_left l names c extends m ys b ≡ body_by l names c extends m ps ys s) where
+        pub start_case : (r : Result (List DiagOf) (Stop (Query JavaPred))) → Reads reply (left b) r → Reads reply (statements_rule l names c extends m ps xs) r
+        start_case r h = then_ok reply (signature_of l m) (λ s. body_by l names c extends m ps xs s) s r signed (subst (λ (q : Rule (List DiagOf)). Reads reply q r) (begun xs) h)
+
+        pub start_goes_on : (o : Option BegunBody) → IfSome o (λ d. Reaches reply (left b) (left d)) → IfSome o (λ d. Reaches reply (statements_rule l names c extends m ps xs) (left d))
+        start_goes_on o h =
+            if_some (λ d. Reaches reply (left b) (left d)) (λ d. Reaches reply (statements_rule l names c extends m ps xs) (left d)) o
+            (λ d k. reaches_behind reply (signature_of l m) (λ s. body_by l names c extends m ps xs s) s (left d) signed (subst (λ (q : Rule (List DiagOf)). Reaches reply q (left d)) (begun xs) k)) h
+
+    -- ---- constructors
+
+    module _ (blanks : List Scope) (d : CtorTree) where
+      abbrev ctor_rest : BegunBody → Rule (List DiagOf)
+      ctor_rest b = ctor_statements_left l names c extends blanks d b
+
+      module _ (inner : List Scope) (own : inner ≡ c ∷ instance_bodies l c) (site : SiteOf) (made : site ≡ member_site l names c extends inner blanks None) (b : BegunBody) where
+        ctor_site : (a : BegunBody) → statements_left site d.body a ≡ ctor_rest a
+        ctor_site a = λ i. statements_left ((made ∙ ap (λ (is : List Scope). member_site l names c extends is blanks None) own) i) d.body a
+
+        pub ctor_case : (r : Result (List DiagOf) (Stop (Query JavaPred))) → Reads reply (statements_left site d.body b) r → Reads reply (ctor_rest b) r
+        ctor_case r h = subst (λ (q : Rule (List DiagOf)). Reads reply q r) (ctor_site b) h
+
+        pub ctor_goes_on : (o : Option BegunBody) → IfSome o (λ a. (a.result ≡ b.result) × Reaches reply (statements_left site d.body b) (statements_left site d.body a)) → IfSome o (λ a. Reaches reply (ctor_rest b) (ctor_rest a))
+        ctor_goes_on o h =
+            if_some (λ a. (a.result ≡ b.result) × Reaches reply (statements_left site d.body b) (statements_left site d.body a)) (λ a. Reaches reply (ctor_rest b) (ctor_rest a)) o
+            (λ a k. subst (λ (q : Rule (List DiagOf)). Reaches reply q (ctor_rest a)) (ctor_site b) (subst (λ (q : Rule (List DiagOf)). Reaches reply (statements_left site d.body b) q) (ctor_site a) k.1)) h
+
+      -- from the start, behind the signature, the parameters and the super call
+      module _ (m : Scope) (s : Option SignatureOf) (signed : Reads reply (signature_of l m) (Ok s)) where
+        abbrev behind_call : Scoped → Rule (List DiagOf)
+        behind_call t = statements_checked (member_site l names c extends (c ∷ instance_bodies l c) blanks None) d.body t
+
+        pub call_stops : (e : Stop (Query JavaPred)) → Reads {U = Scoped} reply (ctor_call l names c extends d s) (Err e) → Reads {U = List DiagOf} reply (ctor_rule l names c extends blanks m d) (Err e)
+        call_stops e h = then_ok reply (signature_of l m) (λ s. ctor_body l names c extends blanks d s) s (Err e) signed (then_err reply (ctor_call l names c extends d s) behind_call e h)
+
+        module _ (b : BegunBody) (none : b.count ≡ 0) (called : Reads {U = Scoped} reply (ctor_call l names c extends d s) (Ok (b.locals.items, b.diags))) where
+          all_left : behind_call (b.locals.items, b.diags) ≡ ctor_rest b
+          all_left = λ i. statements_checked (member_site l names c extends (c ∷ instance_bodies l c) blanks None) (behind (sym none i) d.body) (b.locals.items, b.diags)
+
+          pub ctor_starts : (r : Result (List DiagOf) (Stop (Query JavaPred))) → Reads reply (ctor_rest b) r → Reads reply (ctor_rule l names c extends blanks m d) r
+          ctor_starts r h =
+              then_ok reply (signature_of l m) (λ s. ctor_body l names c extends blanks d s) s r signed
+              (then_ok reply (ctor_call l names c extends d s) behind_call (b.locals.items, b.diags) r called (subst (λ (q : Rule (List DiagOf)). Reads reply q r) (sym all_left) h))
+
+          pub ctor_starts_on : (o : Option BegunBody) → IfSome o (λ a. Reaches reply (ctor_rest b) (ctor_rest a)) → IfSome o (λ a. Reaches reply (ctor_rule l names c extends blanks m d) (ctor_rest a))
+          ctor_starts_on o h =
+              if_some (λ a. Reaches reply (ctor_rest b) (ctor_rest a)) (λ a. Reaches reply (ctor_rule l names c extends blanks m d) (ctor_rest a)) o
+              (λ a k.
+              reaches_behind reply (signature_of l m) (λ s. ctor_body l names c extends blanks d s) s (ctor_rest a) signed
+              (reaches_behind reply (ctor_call l names c extends d s) behind_call (b.locals.items, b.diags) (ctor_rest a) called (subst (λ (q : Rule (List DiagOf)). Reaches reply q (ctor_rest a)) (sym all_left) k))) h
+
+    -- the super call, behind the parameters
+    pub call_case : (d : CtorTree) (s : Option SignatureOf) (x : Result Scoped (Stop (Query JavaPred))) (outer : List Scope) (here : SiteOf) (ts : List Ty) (vs : List Local) (ds : List DiagOf) → outer ≡ instance_bodies l c → ts ≡ param_types s
+        → here ≡ member_site l names c extends outer [] None → ◌≡◌ {A = Scoped} (vs, ds) (params_declared here d.params ts [] []) → Reads reply (super_checked here d.call (vs, ds)) x → Reads reply (ctor_call l names c extends d s) x
+    call_case d s x outer here ts vs ds around types made declared h =
+        subst (λ (q : Rule Scoped). Reads reply q x) (λ i. super_checked ((made ∙ ap (λ (is : List Scope). member_site l names c extends is [] None) around) i) d.call (params_declared ((made ∙ ap (λ (is : List Scope). member_site l names c extends is [] None) around) i) d.params (types i) [] []))
+        (subst (λ (s : Scoped). Reads reply (super_checked here d.call s) x) declared h)
+
+-- the body of a method, whose parameters are in scope
+module _ (l : LayoutOf) (names : List (List ℕ)) (c : Scope) (extends : List (List Ident)) (m : Scope) (s : Option SignatureOf) (instances : List Scope) (own : instances ≡ member_instances l c m) (ps : List ParamTree) (ts : List Ty) (given : Option Ty) where
+  begun_by : (site : SiteOf) (b : BegunBody) → given ≡ given_result s → ts ≡ param_types s → site ≡ member_site l names c extends instances [] given → IsBegun site.result (params_declared site ps ts [] []) b
+      → (xs : StmtTrees) → method_statements_left l names c extends m xs b ≡ body_by l names c extends m ps xs s
+  begun_by site b result types made is xs =
+      let same : b.result ≡ given_result s = is.result ∙ (ap (λ (z : SiteOf). z.result) made ∙ result) in
+      let place : site ≡ member_site l names c extends (member_instances l c m) [] (given_result s) = made ∙ (λ i. member_site l names c extends (own i) [] (result i)) in
+      (λ i. statements_left (member_site l names c extends (member_instances l c m) [] (same i)) xs b)
+      ∙ (begun_left (member_site l names c extends (member_instances l c m) [] (given_result s)) xs site.result (params_declared site ps ts [] []) b is
+      ∙ (λ i. statements_checked (member_site l names c extends (member_instances l c m) [] (given_result s)) xs (params_declared (place i) ps (types i) [] [])))
+
+  pub begin_case : {E : Type 0} (site : SiteOf) (r : Result BegunBody E) → given ≡ given_result s → ts ≡ param_types s → site ≡ member_site l names c extends instances [] given → IfOk r (IsBegun site.result (params_declared site ps ts [] []))
+      → IfOk r (λ b. (xs : StmtTrees) → method_statements_left l names c extends m xs b ≡ body_by l names c extends m ps xs s)
+  begin_case site r result types made h =
+      if_ok (IsBegun site.result (params_declared site ps ts [] [])) (λ b. (xs : StmtTrees) → method_statements_left l names c extends m xs b ≡ body_by l names c extends m ps xs s) r (λ b is. begun_by site b result types made is) h
 
 pub ruleset init_steps = (end_steps, init_case)
 
-pub ruleset behind_steps = (end_steps, behind_case)
+pub ruleset begin_steps = (end_steps, begin_case, begun_stops, begun_memory, call_case)
 
-pub ruleset body_steps = (end_steps, body_case)
+pub ruleset method_steps = (reading_steps, none_begun, kept, begun_reads, begun_goes_on, method_case, method_goes_on, start_case, start_goes_on)
 
-pub ruleset parts_steps = (end_steps, parts_case)
-
-pub ruleset ctor_steps = (end_steps, ctor_case)
+pub ruleset ctor_steps = (reading_steps, none_begun, kept, begun_reads, begun_goes_on, ctor_case, ctor_goes_on, call_stops, ctor_starts, ctor_starts_on)

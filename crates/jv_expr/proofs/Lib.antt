@@ -6,6 +6,7 @@ pub mod CallSteps
 pub mod ApplyingSteps
 pub mod ChoosingSteps
 pub mod BareSteps
+pub mod Locals
 pub mod StatementEnds
 pub mod Effects
 pub mod Declared
@@ -21,6 +22,7 @@ pub mod AskedTyped
 pub mod AskedStatements
 pub mod AskedBodies
 pub mod Parameters
+pub mod TopSteps
 pub mod BodySteps
 pub mod ExpressionCases
 pub mod ExpressionLists

@@ -12,6 +12,7 @@ use Rattle.jv_instance.specs.declared.datum.JavaDatum.{JavaDatum}
 use Rattle.jv_instance.specs.declared.pred.JavaPred.{JavaPred}
 use Rattle.jv_names.specs.Replies.{Rule}
 use Rattle.jv_expr.specs.Checking.{Checking, with_diags, only_diags, with_scope}
+use Rattle.jv_expr.proofs.Locals.{local_steps}
 
 module _ (reply : Query JavaPred → Option (Answer JavaDatum)) where
   module _ {U : Type 0} (r : Checking U) (e : Stop (Query JavaPred)) (x : Result U (Stop (Query JavaPred))) (ds : List DiagOf) (is : IsErrAnd x (λ y. y ≡ e)) where
@@ -51,4 +52,4 @@ module _ (reply : Query JavaPred → Option (Answer JavaDatum)) where
       pub scope_memory : e ≡ OutOfMemory → Reads reply r (with_scope x s ds)
       scope_memory h = scope_stops (subst (λ (z : Stop (Query JavaPred)). Reads {U = S × List DiagOf} reply r (Err z)) (sym h) (memory_reads reply r))
 
-pub ruleset end_steps = (reading_steps, valued_stops, valued_memory, plain_stops, plain_memory, scope_stops, scope_memory)
+pub ruleset end_steps = (reading_steps, local_steps, valued_stops, valued_memory, plain_stops, plain_memory, scope_stops, scope_memory)

@@ -1,5 +1,5 @@
 -- The diagnostics of the bodies of methods and constructors, and of the initializers of fields (JLS 8.3.2, 8.4.7, 8.8.7).
-use Rattle.std.specs.Prelude.{ℕ, false, cond, List, [], ◌∷◌, Option, None, Some}
+use Rattle.std.specs.Prelude.{ℕ, false, cond, List, [], ◌∷◌, ◌++◌, Option, None, Some}
 use Rattle.sg_base.specs.declared.scope.Scope.{Scope}
 use Rattle.sg_reading.specs.Reading.{done, and_then}
 use Rattle.jv_diag.specs.Plain.{DiagOf}
@@ -8,7 +8,7 @@ use Rattle.jv_layout.specs.Folder.{LayoutOf}
 use Rattle.jv_layout.specs.Readers.{file_of, is_static_of}
 use Rattle.jv_tree.specs.declared.name.Ident.{Ident}
 use Rattle.jv_tree.specs.ExprTree.{ExprTrees, InitTree}
-use Rattle.jv_tree.specs.StmtTree.{StmtTrees}
+use Rattle.jv_tree.specs.StmtTree.{StmtTrees, no_stmts, stmts}
 use Rattle.jv_tree.specs.DeclTree.{ParamTree, MethodTree, CtorTree}
 use Rattle.jv_types.specs.Operators.{bad_type, is_void}
 use Rattle.jv_names.specs.Bodies.{member_bodies}
@@ -19,7 +19,7 @@ use Rattle.jv_expr.specs.declared.local.Local.{Local}
 use Rattle.jv_expr.specs.Calls.{super_called}
 use Rattle.jv_expr.specs.Fields.{result_of}
 use Rattle.jv_expr.specs.Site.{SiteOf}
-use Rattle.jv_expr.specs.Statements.{Scoped, all_checked, declared}
+use Rattle.jv_expr.specs.Statements.{Scoped, checked, declared}
 use Rattle.jv_expr.specs.Typed.{arguments_typed, init_typed}
 
 -- ---- where members stand
@@ -59,9 +59,10 @@ params_declared site (p ∷ ps) (t ∷ ts) vs ds =
 
 -- ---- bodies
 
--- the diagnostics of statements behind parameters
+-- the diagnostics of the statements at the top of a body: each statement's own, behind those before
 abbrev pub statements_checked : SiteOf → StmtTrees → Scoped → Rule (List DiagOf)
-statements_checked site xs s = and_then (all_checked site false xs s.0 s.1) (λ t. done t.1)
+statements_checked site no_stmts s = done s.1
+statements_checked site (stmts x xs) s = and_then (checked site false x s.0 []) (λ t. statements_checked site xs (t.0, s.1 ++ t.1))
 
 -- what a `return` gives in a method: nothing where its result is void
 abbrev pub given_result : Option SignatureOf → Option Ty
@@ -72,10 +73,14 @@ abbrev pub body_by : LayoutOf → List (List ℕ) → Scope → List (List Ident
 body_by l names c extends m ps xs s =
     statements_checked (member_site l names c extends (member_instances l c m) [] (given_result s)) xs (params_declared (member_site l names c extends (member_instances l c m) [] (given_result s)) ps (param_types s) [] [])
 
+-- the statements of a method
+abbrev pub statements_rule : LayoutOf → List (List ℕ) → Scope → List (List Ident) → Scope → List ParamTree → StmtTrees → Rule (List DiagOf)
+statements_rule l names c extends m ps xs = and_then (signature_of l m) (λ s. body_by l names c extends m ps xs s)
+
 -- the body of a method; a method without one has nothing to check
 abbrev pub optional_body : LayoutOf → List (List ℕ) → Scope → List (List Ident) → Scope → MethodTree → Option StmtTrees → Rule (List DiagOf)
 optional_body l names c extends m d None = done []
-optional_body l names c extends m d (Some xs) = and_then (signature_of l m) (λ s. body_by l names c extends m d.params xs s)
+optional_body l names c extends m d (Some xs) = statements_rule l names c extends m d.params xs
 
 -- ---- constructors
 
@@ -88,11 +93,14 @@ abbrev pub super_checked : SiteOf → Option (ℕ × ExprTrees) → Scoped → R
 super_checked site None s = done s
 super_checked site (Some x) s = and_then (arguments_typed site s.0 x.1 [] s.1) (λ as'. and_then (super_called site x.0 as'.0 as'.1) (λ ds. done (s.0, ds)))
 
+-- the parameters and the super call of a constructor
+abbrev pub ctor_call : LayoutOf → List (List ℕ) → Scope → List (List Ident) → CtorTree → Option SignatureOf → Rule Scoped
+ctor_call l names c extends d s = super_checked (call_site l names c extends) d.call (params_declared (call_site l names c extends) d.params (param_types s) [] [])
+
 -- a constructor: its parameters, its super call, and its statements, which may assign the blank fields of its class
 abbrev pub ctor_body : LayoutOf → List (List ℕ) → Scope → List (List Ident) → List Scope → CtorTree → Option SignatureOf → Rule (List DiagOf)
 ctor_body l names c extends blanks d s =
-    and_then (super_checked (call_site l names c extends) d.call (params_declared (call_site l names c extends) d.params (param_types s) [] [])) (λ t.
-    statements_checked (member_site l names c extends (c ∷ instance_bodies l c) blanks None) d.body t)
+    and_then (ctor_call l names c extends d s) (λ t. statements_checked (member_site l names c extends (c ∷ instance_bodies l c) blanks None) d.body t)
 
 -- ---- members
 

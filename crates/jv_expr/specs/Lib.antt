@@ -10,6 +10,8 @@ pub mod Statements
 pub mod Branches
 pub mod ParamTypes
 pub mod Bodies
+pub mod Locals
+pub mod Progress
 pub mod Sites
 pub mod Manners
 pub mod Bounds

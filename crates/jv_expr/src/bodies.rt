@@ -1,31 +1,33 @@
 //! Bodies of methods and constructors, and initializers of fields.
 
-ghost use Rattle.std.specs.Prelude.{◌≡◌, ◌<◌, ◌^◌, ◌∷◌, [], map, Some, None, IfOk};
+ghost use Rattle.std.specs.Prelude.{◌≡◌, ◌<◌, ◌^◌, ◌∷◌, [], map, Some, None, IfOk, IfSome, OnOk};
 ghost use Rattle.std.specs.Option.{option_map};
-ghost use Rattle.sg_reading.specs.Reading.{and_then};
+ghost use Rattle.sg_reading.specs.Progress.{Reaches};
 ghost use Rattle.sg_reading.specs.Stop.{Reads};
 ghost use Rattle.jv_layout.specs.Readers.{file_of};
 ghost use Rattle.jv_tree.specs.DeclTree.{ctor_tree, method_tree, param_tree};
 ghost use Rattle.jv_tree.specs.ExprTree.{expr_trees, init_tree};
-ghost use Rattle.jv_tree.specs.StmtTree.{stmt_trees, var_tree};
+ghost use Rattle.jv_tree.specs.StmtTree.{StmtTrees, stmt_trees, var_tree};
 ghost use Rattle.jv_tree.specs.TypeTree.{ids_of};
 ghost use Rattle.jv_names.specs.Bodies.{member_bodies};
 ghost use Rattle.jv_names.specs.Instances.{instance_bodies};
-ghost use Rattle.jv_names.specs.Read.{signature_of};
 ghost use Rattle.jv_names.specs.Replies.{reply_to};
-ghost use Rattle.jv_expr.specs.Bodies.{body_by, ctor_body, ctor_rule, field_rule, member_instances, member_site, method_rule, optional_body, param_types, params_declared, statements_checked, super_checked};
-ghost use Rattle.jv_expr.specs.Checking.{only_diags, with_scope};
+ghost use Rattle.jv_expr.specs.Bodies.{body_by, ctor_call, ctor_rule, field_rule, member_instances, member_site, method_rule, params_declared, statements_rule, super_checked};
+ghost use Rattle.jv_expr.specs.Checking.{with_scope};
 ghost use Rattle.jv_expr.specs.Fields.{result_of};
+ghost use Rattle.jv_expr.specs.Progress.{begun_scope, ctor_left, ctor_statements_left, IsBegun, left_of, method_left, method_statements_left};
 ghost use Rattle.jv_expr.specs.Sites.{site_of};
 ghost use Rattle.jv_expr.specs.Typed.{init_typed};
 
+use crate::begun_body::BegunBody;
+use crate::body_progress::BodyProgress;
 use crate::calls::check_super_constructor;
 use crate::expressions::{check_arguments, check_init};
 use crate::local::Local;
 use crate::need::Need;
 use crate::params::{declare_params, given_result, param_types, result_of};
 use crate::site::Site;
-use crate::statements::check_all;
+use crate::top_statements::go_on;
 use jv_diag::DiagList;
 use jv_instance::Ty;
 use jv_layout::Layout;
@@ -154,46 +156,85 @@ pub fn read_field_init(
     }
 }
 
-/// Statements behind parameters.
-#[tactic(auto, using(crate::proofs::StatementEnds::end_steps))]
-fn check_statements(
+/// A body at a place, whose parameters are in scope.
+#[tactic(auto, using(crate::proofs::TopSteps::begun_steps))]
+fn begin_body(
     alloc: Global,
     site: &Site<'_>,
-    o: &Oracle,
-    ss: &Vec<Stmt>,
-    locals: &mut Vec<Local>,
-    ds: &mut DiagList,
-) -> Result<(), Need>
-    requires { site.now.spot.now.file < 2 ^ 31 }
-    ensures { Reads (reply_to o.now) (statements_checked (site_of site.now) (stmt_trees ss.now.items) (locals.old.items, ds.old)) (only_diags result ds.new) }
-{
-    check_all(alloc, site, o, false, ss, locals, ds)?;
-    Ok(())
-}
-
-/// Parameters and statements of a body at a place.
-#[tactic(auto, using(crate::proofs::BodySteps::behind_steps))]
-fn read_behind(
-    alloc: Global,
-    site: &Site<'_>,
-    o: &Oracle,
     params: &[Param],
     types: &[Ty],
-    ss: &Vec<Stmt>,
-) -> Result<DiagList, Need>
-    requires { site.now.spot.now.file < 2 ^ 31 }
-    ensures { Reads (reply_to o.now) (statements_checked (site_of site.now) (stmt_trees ss.now.items) (params_declared (site_of site.now) (map param_tree params.now) types.now [] [])) result }
+) -> Result<BegunBody, AllocError>
+    ensures { IfOk result (IsBegun (site_of site.now).result (params_declared (site_of site.now) (map param_tree params.now) types.now [] [])) }
 {
     let mut locals = Vec::new(alloc);
-    let mut ds = DiagList::empty(alloc);
-    declare_params(alloc, site, params, types, &mut locals, &mut ds)?;
-    check_statements(alloc, site, o, ss, &mut locals, &mut ds)?;
-    Ok(ds)
+    let mut diags = DiagList::empty(alloc);
+    declare_params(alloc, site, params, types, &mut locals, &mut diags)?;
+    Ok(BegunBody {
+        result: site.result,
+        count: 0,
+        locals,
+        diags,
+    })
 }
 
-/// The body of a method with this signature.
-#[tactic(auto, using(crate::proofs::BodySteps::body_steps))]
-fn read_body_by(
+/// The body of a method with this signature, whose parameters are in scope.
+#[tactic(auto, using(crate::proofs::BodySteps::begin_steps))]
+fn begin_method(
+    alloc: Global,
+    l: &Layout,
+    n: &Names,
+    ty: Scope,
+    extends: &[Name],
+    member: Scope,
+    params: &[Param],
+    s: &Option<ReadSignature>,
+) -> Result<BegunBody, AllocError>
+    ensures { IfOk result (λ b. (xs : StmtTrees) → method_statements_left l.now n.now ty (map ids_of extends.now) member xs b ≡ body_by l.now n.now ty (map ids_of extends.now) member (map param_tree params.now) xs s.now) }
+{
+    let spot = Spot::of_body(alloc, l, ty)?;
+    let instances = member_instances(alloc, l, ty, member)?;
+    let given = given_result(s);
+    let site = site_at(l, n, &spot, ty, instances.as_slice(), extends, &[], given);
+    begin_body(alloc, &site, params, param_types(s))
+}
+
+/// What is wrong in the body of a method, of which this was checked.
+#[tactic(auto, using(crate::proofs::BodySteps::method_steps))]
+fn go_on_method(
+    alloc: Global,
+    l: &Layout,
+    n: &Names,
+    o: &Oracle,
+    ty: Scope,
+    extends: &[Name],
+    member: Scope,
+    ss: &[Stmt],
+    body: BegunBody,
+    progress: &mut BodyProgress,
+) -> Result<DiagList, Need>
+    requires { progress.old.begun ≡ None }
+    ensures reads { Reads (reply_to o.now) (method_statements_left l.now n.now ty (map ids_of extends.now) member (stmt_trees ss.now) body) result }
+    ensures left { IfSome progress.new.begun (λ b. Reaches (reply_to o.now) (method_statements_left l.now n.now ty (map ids_of extends.now) member (stmt_trees ss.now) body) (method_statements_left l.now n.now ty (map ids_of extends.now) member (stmt_trees ss.now) b)) }
+    ensures new { OnOk result (progress.new.begun ≡ None) }
+{
+    let spot = Spot::of_body(alloc, l, ty)?;
+    let instances = member_instances(alloc, l, ty, member)?;
+    let site = site_at(
+        l,
+        n,
+        &spot,
+        ty,
+        instances.as_slice(),
+        extends,
+        &[],
+        body.result,
+    );
+    go_on(alloc, &site, o, ss, body, progress)
+}
+
+/// What is wrong in the body of a method, of which nothing was checked.
+#[tactic(auto, using(crate::proofs::BodySteps::method_steps))]
+fn start_method(
     alloc: Global,
     l: &Layout,
     n: &Names,
@@ -202,20 +243,21 @@ fn read_body_by(
     extends: &[Name],
     member: Scope,
     params: &[Param],
-    ss: &Vec<Stmt>,
-    s: &Option<ReadSignature>,
+    ss: &[Stmt],
+    progress: &mut BodyProgress,
 ) -> Result<DiagList, Need>
-    ensures { Reads (reply_to o.now) (body_by l.now n.now ty (map ids_of extends.now) member (map param_tree params.now) (stmt_trees ss.now.items) s.now) result }
+    requires { progress.old.begun ≡ None }
+    ensures reads { Reads (reply_to o.now) (statements_rule l.now n.now ty (map ids_of extends.now) member (map param_tree params.now) (stmt_trees ss.now)) result }
+    ensures left { IfSome progress.new.begun (λ b. Reaches (reply_to o.now) (statements_rule l.now n.now ty (map ids_of extends.now) member (map param_tree params.now) (stmt_trees ss.now)) (method_statements_left l.now n.now ty (map ids_of extends.now) member (stmt_trees ss.now) b)) }
+    ensures new { OnOk result (progress.new.begun ≡ None) }
 {
-    let spot = Spot::of_body(alloc, l, ty)?;
-    let instances = member_instances(alloc, l, ty, member)?;
-    let given = given_result(s);
-    let site = site_at(l, n, &spot, ty, instances.as_slice(), extends, &[], given);
-    read_behind(alloc, &site, o, params, param_types(s), ss)
+    let s = read_signature_of(alloc, l, o, member)?;
+    let body = begin_method(alloc, l, n, ty, extends, member, params, &s)?;
+    go_on_method(alloc, l, n, o, ty, extends, member, ss, body, progress)
 }
 
-/// The body of a method.
-#[tactic(auto, using(sg_reading::proofs::Steps::reading_steps))]
+/// What is wrong in the body of a method, by how far its check came.
+#[tactic(auto, using(crate::proofs::BodySteps::method_steps))]
 fn read_body(
     alloc: Global,
     l: &Layout,
@@ -225,18 +267,24 @@ fn read_body(
     extends: &[Name],
     member: Scope,
     params: &[Param],
-    ss: &Vec<Stmt>,
+    ss: &[Stmt],
+    progress: &mut BodyProgress,
 ) -> Result<DiagList, Need>
-    ensures { Reads (reply_to o.now)
-        (and_then (signature_of l.now member) (λ s. body_by l.now n.now ty (map ids_of extends.now) member (map param_tree params.now) (stmt_trees ss.now.items) s))
-        result }
+    requires { Reaches (reply_to o.now) (statements_rule l.now n.now ty (map ids_of extends.now) member (map param_tree params.now) (stmt_trees ss.now)) (left_of (statements_rule l.now n.now ty (map ids_of extends.now) member (map param_tree params.now) (stmt_trees ss.now)) (method_statements_left l.now n.now ty (map ids_of extends.now) member (stmt_trees ss.now)) progress.old.begun) }
+    ensures reads { Reads (reply_to o.now) (statements_rule l.now n.now ty (map ids_of extends.now) member (map param_tree params.now) (stmt_trees ss.now)) result }
+    ensures left { Reaches (reply_to o.now) (statements_rule l.now n.now ty (map ids_of extends.now) member (map param_tree params.now) (stmt_trees ss.now)) (left_of (statements_rule l.now n.now ty (map ids_of extends.now) member (map param_tree params.now) (stmt_trees ss.now)) (method_statements_left l.now n.now ty (map ids_of extends.now) member (stmt_trees ss.now)) progress.new.begun) }
+    ensures new { OnOk result (progress.new.begun ≡ None) }
 {
-    let s = read_signature_of(alloc, l, o, member)?;
-    read_body_by(alloc, l, n, o, ty, extends, member, params, ss, &s)
+    match progress.take() {
+        None => start_method(alloc, l, n, o, ty, extends, member, params, ss, progress),
+        Some(body) => go_on_method(alloc, l, n, o, ty, extends, member, ss, body, progress),
+    }
 }
 
-/// What is wrong in the body of a method of a type (JLS 8.4.7).
-#[tactic(auto, using(sg_reading::proofs::Steps::reading_steps))]
+/// What is wrong in the body of a method of a type (JLS 8.4.7), as far as the replies tell it, or the first query that has no
+/// reply. The check goes on from where the progress says that it came to, and leaves there how far it came: where a reply is missing,
+/// the statements before the one at the top of the body that asked for it are not read again. With the diagnostics nothing is begun.
+#[tactic(auto, using(crate::proofs::BodySteps::method_steps))]
 pub fn read_method_body(
     alloc: Global,
     l: &Layout,
@@ -246,11 +294,18 @@ pub fn read_method_body(
     extends: &[Name],
     member: Scope,
     method: &Method,
+    progress: &mut BodyProgress,
 ) -> Result<DiagList, Need>
-    ensures { Reads (reply_to o.now) (method_rule l.now n.now ty (map ids_of extends.now) member (method_tree method.now)) result }
+    requires { Reaches (reply_to o.now) (method_rule l.now n.now ty (map ids_of extends.now) member (method_tree method.now)) (method_left l.now n.now ty (map ids_of extends.now) member (method_tree method.now) progress.old) }
+    ensures reads { Reads (reply_to o.now) (method_rule l.now n.now ty (map ids_of extends.now) member (method_tree method.now)) result }
+    ensures left { Reaches (reply_to o.now) (method_rule l.now n.now ty (map ids_of extends.now) member (method_tree method.now)) (method_left l.now n.now ty (map ids_of extends.now) member (method_tree method.now) progress.new) }
+    ensures new { OnOk result (progress.new.begun ≡ None) }
 {
     match &method.body {
-        None => Ok(DiagList::empty(alloc)),
+        None => {
+            *progress = BodyProgress::new();
+            Ok(DiagList::empty(alloc))
+        }
         Some(ss) => read_body(
             alloc,
             l,
@@ -260,7 +315,8 @@ pub fn read_method_body(
             extends,
             member,
             method.params.as_slice(),
-            ss,
+            ss.as_slice(),
+            progress,
         ),
     }
 }
@@ -288,41 +344,39 @@ fn check_super(
     }
 }
 
-/// The parameters, the super call and the statements of a constructor, at the place of its call and at that of its body.
-#[tactic(auto, using(crate::proofs::BodySteps::parts_steps))]
-fn read_parts(
+/// A constructor with this signature, behind its parameters and its super call.
+#[tactic(auto, using(crate::proofs::BodySteps::begin_steps))]
+fn begin_ctor(
     alloc: Global,
-    call_site: &Site<'_>,
-    site: &Site<'_>,
+    l: &Layout,
+    n: &Names,
     o: &Oracle,
+    ty: Scope,
+    extends: &[Name],
     ctor: &Ctor,
-    types: &[Ty],
-) -> Result<DiagList, Need>
-    requires call { call_site.now.spot.now.file < 2 ^ 31 }
-    requires body { site.now.spot.now.file < 2 ^ 31 }
-    ensures { Reads (reply_to o.now)
-        (and_then (super_checked (site_of call_site.now) (ctor_tree ctor.now).call (params_declared (site_of call_site.now) (ctor_tree ctor.now).params types.now [] []))
-        (λ t. statements_checked (site_of site.now) (ctor_tree ctor.now).body t))
-        result }
+    s: &Option<ReadSignature>,
+) -> Result<BegunBody, Need>
+    ensures reads { Reads (reply_to o.now) (ctor_call l.now n.now ty (map ids_of extends.now) (ctor_tree ctor.now) s.now) (begun_scope result) }
+    ensures count { IfOk result (λ b. b.count ≡ 0) }
 {
-    let mut locals = Vec::new(alloc);
-    let mut ds = DiagList::empty(alloc);
-    declare_params(
+    let spot = Spot::of_body(alloc, l, ty)?;
+    let outer = instance_bodies(alloc, l, ty)?;
+    let site = site_at(l, n, &spot, ty, outer.as_slice(), extends, &[], None);
+    let mut body = begin_body(alloc, &site, ctor.params.as_slice(), param_types(s))?;
+    check_super(
         alloc,
-        call_site,
-        ctor.params.as_slice(),
-        types,
-        &mut locals,
-        &mut ds,
+        &site,
+        o,
+        &ctor.call,
+        body.locals.as_slice(),
+        &mut body.diags,
     )?;
-    check_super(alloc, call_site, o, &ctor.call, locals.as_slice(), &mut ds)?;
-    check_statements(alloc, site, o, &ctor.body, &mut locals, &mut ds)?;
-    Ok(ds)
+    Ok(body)
 }
 
-/// A constructor with this signature.
+/// What is wrong in a constructor, of which this was checked.
 #[tactic(auto, using(crate::proofs::BodySteps::ctor_steps))]
-fn read_ctor_by(
+fn go_on_ctor(
     alloc: Global,
     l: &Layout,
     n: &Names,
@@ -331,20 +385,47 @@ fn read_ctor_by(
     extends: &[Name],
     blanks: &[Scope],
     ctor: &Ctor,
-    s: &Option<ReadSignature>,
+    body: BegunBody,
+    progress: &mut BodyProgress,
 ) -> Result<DiagList, Need>
-    ensures { Reads (reply_to o.now) (ctor_body l.now n.now ty (map ids_of extends.now) blanks.now (ctor_tree ctor.now) s.now) result }
+    requires { progress.old.begun ≡ None }
+    ensures reads { Reads (reply_to o.now) (ctor_statements_left l.now n.now ty (map ids_of extends.now) blanks.now (ctor_tree ctor.now) body) result }
+    ensures left { IfSome progress.new.begun (λ b. Reaches (reply_to o.now) (ctor_statements_left l.now n.now ty (map ids_of extends.now) blanks.now (ctor_tree ctor.now) body) (ctor_statements_left l.now n.now ty (map ids_of extends.now) blanks.now (ctor_tree ctor.now) b)) }
+    ensures new { OnOk result (progress.new.begun ≡ None) }
 {
     let spot = Spot::of_body(alloc, l, ty)?;
-    let outer = instance_bodies(alloc, l, ty)?;
     let inner = own_instances(alloc, l, ty)?;
-    let call_site = site_at(l, n, &spot, ty, outer.as_slice(), extends, &[], None);
     let site = site_at(l, n, &spot, ty, inner.as_slice(), extends, blanks, None);
-    read_parts(alloc, &call_site, &site, o, ctor, param_types(s))
+    go_on(alloc, &site, o, ctor.body.as_slice(), body, progress)
 }
 
-/// What is wrong in the body of a constructor of a type, which may assign these blank final fields (JLS 8.8.7).
-#[tactic(auto, using(sg_reading::proofs::Steps::reading_steps))]
+/// What is wrong in a constructor, of which nothing was checked.
+#[tactic(auto, using(crate::proofs::BodySteps::ctor_steps))]
+fn start_ctor(
+    alloc: Global,
+    l: &Layout,
+    n: &Names,
+    o: &Oracle,
+    ty: Scope,
+    extends: &[Name],
+    blanks: &[Scope],
+    member: Scope,
+    ctor: &Ctor,
+    progress: &mut BodyProgress,
+) -> Result<DiagList, Need>
+    requires { progress.old.begun ≡ None }
+    ensures reads { Reads (reply_to o.now) (ctor_rule l.now n.now ty (map ids_of extends.now) blanks.now member (ctor_tree ctor.now)) result }
+    ensures left { IfSome progress.new.begun (λ b. Reaches (reply_to o.now) (ctor_rule l.now n.now ty (map ids_of extends.now) blanks.now member (ctor_tree ctor.now)) (ctor_statements_left l.now n.now ty (map ids_of extends.now) blanks.now (ctor_tree ctor.now) b)) }
+    ensures new { OnOk result (progress.new.begun ≡ None) }
+{
+    let s = read_signature_of(alloc, l, o, member)?;
+    let body = begin_ctor(alloc, l, n, o, ty, extends, ctor, &s)?;
+    go_on_ctor(alloc, l, n, o, ty, extends, blanks, ctor, body, progress)
+}
+
+/// What is wrong in the body of a constructor of a type, which may assign these blank final fields (JLS 8.8.7), as far as the replies
+/// tell it, or the first query that has no reply. The check goes on as that of a method does, once behind the super call.
+#[tactic(auto, using(crate::proofs::BodySteps::ctor_steps))]
 pub fn read_ctor_body(
     alloc: Global,
     l: &Layout,
@@ -355,9 +436,15 @@ pub fn read_ctor_body(
     blanks: &[Scope],
     member: Scope,
     ctor: &Ctor,
+    progress: &mut BodyProgress,
 ) -> Result<DiagList, Need>
-    ensures { Reads (reply_to o.now) (ctor_rule l.now n.now ty (map ids_of extends.now) blanks.now member (ctor_tree ctor.now)) result }
+    requires { Reaches (reply_to o.now) (ctor_rule l.now n.now ty (map ids_of extends.now) blanks.now member (ctor_tree ctor.now)) (ctor_left l.now n.now ty (map ids_of extends.now) blanks.now member (ctor_tree ctor.now) progress.old) }
+    ensures reads { Reads (reply_to o.now) (ctor_rule l.now n.now ty (map ids_of extends.now) blanks.now member (ctor_tree ctor.now)) result }
+    ensures left { Reaches (reply_to o.now) (ctor_rule l.now n.now ty (map ids_of extends.now) blanks.now member (ctor_tree ctor.now)) (ctor_left l.now n.now ty (map ids_of extends.now) blanks.now member (ctor_tree ctor.now) progress.new) }
+    ensures new { OnOk result (progress.new.begun ≡ None) }
 {
-    let s = read_signature_of(alloc, l, o, member)?;
-    read_ctor_by(alloc, l, n, o, ty, extends, blanks, ctor, &s)
+    match progress.take() {
+        None => start_ctor(alloc, l, n, o, ty, extends, blanks, member, ctor, progress),
+        Some(body) => go_on_ctor(alloc, l, n, o, ty, extends, blanks, ctor, body, progress),
+    }
 }

@@ -9,6 +9,7 @@ ghost use Rattle.jv_tree.specs.StmtTree.{var_tree, var_trees};
 ghost use Rattle.jv_tree.specs.TypeTree.{type_tree};
 ghost use Rattle.jv_names.specs.Replies.{reply_to};
 ghost use Rattle.jv_expr.specs.Checking.{only_diags, with_diags, with_scope};
+ghost use Rattle.jv_expr.specs.Locals.{AddsLocals};
 ghost use Rattle.jv_expr.specs.Sites.{site_of};
 ghost use Rattle.jv_expr.specs.Statements.{declared, optional_init, variable_checked, variables_checked};
 ghost use Rattle.jv_expr.specs.Typed.{written_at};
@@ -27,6 +28,7 @@ use sg_reading::Stop;
 use std::alloc::{AllocError, Global};
 
 /// Adds a local variable. One of its name that is in scope already is a diagnostic (JLS 6.4).
+#[tactic(auto, using(crate::proofs::Locals::local_steps))]
 pub(crate) fn declare(
     alloc: Global,
     site: &Site<'_>,
@@ -36,7 +38,8 @@ pub(crate) fn declare(
     locals: &mut Vec<Local>,
     ds: &mut DiagList,
 ) -> Result<(), AllocError>
-    ensures { OnOk result ((locals.new.items, ds.new) ≡ declared (site_of site.now) i ty sealed locals.old.items ds.old) }
+    ensures declared { OnOk result ((locals.new.items, ds.new) ≡ declared (site_of site.now) i ty sealed locals.old.items ds.old) }
+    ensures grows { AddsLocals locals.old.items locals.new.items }
 {
     let known = latest(locals.as_slice(), i.id).is_some();
     add_named_if(alloc, known, site, i, 39, ds)?;
@@ -88,7 +91,8 @@ fn check_variable(
     ds: &mut DiagList,
 ) -> Result<(), Need>
     requires { site.now.spot.now.file < 2 ^ 31 }
-    ensures { Reads (reply_to o.now) (variable_checked (site_of site.now) is_final ty (var_tree var.now) locals.old.items ds.old) (with_scope result locals.new.items ds.new) }
+    ensures reads { Reads (reply_to o.now) (variable_checked (site_of site.now) is_final ty (var_tree var.now) locals.old.items ds.old) (with_scope result locals.new.items ds.new) }
+    ensures grows { AddsLocals locals.old.items locals.new.items }
 {
     let sealed = is_sealed(is_final, &var.init);
     declare(alloc, site, var.name, ty, sealed, locals, ds)?;
@@ -109,7 +113,8 @@ fn check_variables(
     ds: &mut DiagList,
 ) -> Result<(), Need>
     requires { site.now.spot.now.file < 2 ^ 31 }
-    ensures { Reads (reply_to o.now) (variables_checked (site_of site.now) is_final ty (var_trees vars.now.items) locals.old.items ds.old) (with_scope result locals.new.items ds.new) }
+    ensures reads { Reads (reply_to o.now) (variables_checked (site_of site.now) is_final ty (var_trees vars.now.items) locals.old.items ds.old) (with_scope result locals.new.items ds.new) }
+    ensures grows { AddsLocals locals.old.items locals.new.items }
 {
     for var in vars {
         check_variable(alloc, site, o, is_final, ty, var, locals, ds)?;
@@ -147,9 +152,10 @@ pub(crate) fn check_local(
     ds: &mut DiagList,
 ) -> Result<(), Need>
     requires { site.now.spot.now.file < 2 ^ 31 }
-    ensures { Reads (reply_to o.now)
+    ensures reads { Reads (reply_to o.now)
         (and_then (written_at (site_of site.now) (type_tree ty.now) ds.old) (λ w. variables_checked (site_of site.now) is_final w.0 (var_trees vars.now.items) locals.old.items w.1))
         (with_scope result locals.new.items ds.new) }
+    ensures grows { AddsLocals locals.old.items locals.new.items }
 {
     let t = check_declared_type(alloc, site, o, ty, ds)?;
     check_variables(alloc, site, o, is_final, t, vars, locals, ds)

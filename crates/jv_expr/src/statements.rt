@@ -9,6 +9,7 @@ ghost use Rattle.jv_tree.specs.StmtTree.{optional_else, stmt_kind_tree, stmt_tre
 ghost use Rattle.jv_names.specs.Replies.{reply_to};
 ghost use Rattle.jv_expr.specs.Branches.{branches_of};
 ghost use Rattle.jv_expr.specs.Checking.{with_scope};
+ghost use Rattle.jv_expr.specs.Locals.{AddsLocals};
 ghost use Rattle.jv_expr.specs.Sites.{site_of};
 ghost use Rattle.jv_expr.specs.Statements.{all_checked, branches_checked, checked, effects_checked, else_checked, in_loop, left, optional_condition};
 
@@ -52,7 +53,7 @@ fn count(locals: &Vec<Local>) -> usize
 /// A statement, within a loop or outside (JLS 14).
 #[tactic(auto, using(crate::proofs::StatementCases::statement_steps))]
 #[cycle(statements)]
-fn check_statement(
+pub(crate) fn check_statement(
     alloc: Global,
     site: &Site<'_>,
     o: &Oracle,
@@ -62,7 +63,8 @@ fn check_statement(
     ds: &mut DiagList,
 ) -> Result<(), Need>
     requires { site.now.spot.now.file < 2 ^ 31 }
-    ensures { Reads (reply_to o.now) (checked (site_of site.now) within (stmt_tree s.now) locals.old.items ds.old) (with_scope result locals.new.items ds.new) }
+    ensures reads { Reads (reply_to o.now) (checked (site_of site.now) within (stmt_tree s.now) locals.old.items ds.old) (with_scope result locals.new.items ds.new) }
+    ensures grows { AddsLocals locals.old.items locals.new.items }
 {
     match &s.kind {
         StmtKind::Block(ss) => check_block(alloc, site, o, within, ss, locals, ds),
@@ -122,7 +124,8 @@ fn check_block(
     ds: &mut DiagList,
 ) -> Result<(), Need>
     requires { site.now.spot.now.file < 2 ^ 31 }
-    ensures { Reads (reply_to o.now) (left locals.old.items (all_checked (site_of site.now) within (stmt_trees ss.now.items) locals.old.items ds.old)) (with_scope result locals.new.items ds.new) }
+    ensures reads { Reads (reply_to o.now) (left locals.old.items (all_checked (site_of site.now) within (stmt_trees ss.now.items) locals.old.items ds.old)) (with_scope result locals.new.items ds.new) }
+    ensures grows { AddsLocals locals.old.items locals.new.items }
 {
     let n = locals.len();
     check_all(alloc, site, o, within, ss, locals, ds)?;
@@ -144,10 +147,11 @@ fn check_rounds(
     ds: &mut DiagList,
 ) -> Result<(), Need>
     requires { site.now.spot.now.file < 2 ^ 31 }
-    ensures { Reads (reply_to o.now)
+    ensures reads { Reads (reply_to o.now)
         (and_then (optional_condition (site_of site.now) locals.old.items (option_map expr_tree e.now) ds.old)
         (λ ds. and_then (effects_checked (site_of site.now) locals.old.items (expr_trees updates.now.items) ds) (λ ds. checked (site_of site.now) true (stmt_tree body.now) locals.old.items ds)))
         (with_scope result locals.new.items ds.new) }
+    ensures grows { AddsLocals locals.old.items locals.new.items }
 {
     check_optional_condition(alloc, site, o, locals.as_slice(), e, ds)?;
     check_effects(alloc, site, o, locals.as_slice(), updates, ds)?;
@@ -167,7 +171,8 @@ fn check_branches(
     ds: &mut DiagList,
 ) -> Result<(), Need>
     requires { site.now.spot.now.file < 2 ^ 31 }
-    ensures { Reads (reply_to o.now) (branches_checked (site_of site.now) within (branches_of (stmt_kind_tree s.now.kind)) locals.old.items ds.old) (with_scope result locals.new.items ds.new) }
+    ensures reads { Reads (reply_to o.now) (branches_checked (site_of site.now) within (branches_of (stmt_kind_tree s.now.kind)) locals.old.items ds.old) (with_scope result locals.new.items ds.new) }
+    ensures grows { AddsLocals locals.old.items locals.new.items }
 {
     match &s.kind {
         StmtKind::If(branches, _) => {
@@ -203,7 +208,8 @@ fn check_else(
     ds: &mut DiagList,
 ) -> Result<(), Need>
     requires { site.now.spot.now.file < 2 ^ 31 }
-    ensures { Reads (reply_to o.now) (else_checked (site_of site.now) within (optional_else (option_map (λ b. b.value) other.now)) locals.old.items ds.old) (with_scope result locals.new.items ds.new) }
+    ensures reads { Reads (reply_to o.now) (else_checked (site_of site.now) within (optional_else (option_map (λ b. b.value) other.now)) locals.old.items ds.old) (with_scope result locals.new.items ds.new) }
+    ensures grows { AddsLocals locals.old.items locals.new.items }
 {
     match other {
         None => Ok(()),
@@ -214,7 +220,7 @@ fn check_else(
 /// Statements of a block, within a loop or outside.
 #[tactic(auto, using(crate::proofs::StatementLists::all_steps))]
 #[cycle(statements)]
-pub(crate) fn check_all(
+fn check_all(
     alloc: Global,
     site: &Site<'_>,
     o: &Oracle,
@@ -224,7 +230,8 @@ pub(crate) fn check_all(
     ds: &mut DiagList,
 ) -> Result<(), Need>
     requires { site.now.spot.now.file < 2 ^ 31 }
-    ensures { Reads (reply_to o.now) (all_checked (site_of site.now) within (stmt_trees ss.now.items) locals.old.items ds.old) (with_scope result locals.new.items ds.new) }
+    ensures reads { Reads (reply_to o.now) (all_checked (site_of site.now) within (stmt_trees ss.now.items) locals.old.items ds.old) (with_scope result locals.new.items ds.new) }
+    ensures grows { AddsLocals locals.old.items locals.new.items }
 {
     for s in ss {
         check_statement(alloc, site, o, within, s, locals, ds)?;

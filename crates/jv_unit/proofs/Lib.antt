@@ -1,3 +1,4 @@
+pub mod BodyRules
 pub mod Folders
 pub mod MemberBodies
 pub mod MemberPlaces

@@ -6,15 +6,15 @@ use Rattle.sg_script.specs.Script.{IsSound}
 use Rattle.sg_state.specs.Opening.{opened_of}
 use Rattle.jv_layout.specs.Skeleton.{skeleton_of}
 use Rattle.jv_unit.specs.declared.folder.Folder.{Folder}
-use Rattle.jv_unit.specs.declared.java_script.JavaScript.{JavaScript}
 use Rattle.jv_unit.specs.Kept.{folder_of, IsWhole}
 use Rattle.jv_unit.specs.Folder.{FolderOf}
 use Rattle.jv_unit.specs.Plans.{JavaPlan, java_plan}
+use Rattle.jv_unit.specs.Script.{ScriptOf}
 use Rattle.jv_unit.specs.Scripts.{JavaUnit, plan_of, AreNewUnits, AreUnitsOf, IsUnitOf}
 use Rattle.jv_unit.proofs.Sound.{units_are_sound}
 
 -- a script over a folder that is whole is sound
-pub new_is_sound : (w : Folder) (u : ℕ) (s : JavaScript) → arc_value s.folder ≡ w → s.unit ≡ u → IsWhole w → u < length w.layout.files + length w.layout.types → IsSound (plan_of s)
+pub new_is_sound : (w : Folder) (u : ℕ) (s : ScriptOf) → arc_value s.folder ≡ w → s.unit ≡ u → IsWhole w → u < length w.layout.files + length w.layout.types → IsSound (plan_of s)
 new_is_sound w u s folder unit whole within =
     subst (λ (z : Folder). IsSound (java_plan (folder_of z) s.unit)) (sym folder) (subst (λ (n : ℕ). IsSound (java_plan (folder_of w) n)) (sym unit) (units_are_sound (folder_of w) whole.folder u within))
 

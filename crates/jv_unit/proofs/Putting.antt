@@ -1,5 +1,5 @@
 -- A reply that is put to a query without one is added, and no other reply changes.
-use Rattle.std.proofs.Common.{◌≡◌, ◌&&◌, ◌==◌, Bool, true, false, cond, List, [], ◌∷◌, ◌++◌, Some, None, Result, Ok, Err, IfOk, OnOk, Decides, refl, sym, ap, ◌∙◌, subst}
+use Rattle.std.proofs.Common.{◌≡◌, ◌&&◌, ◌==◌, Bool, true, false, cond, List, [], ◌∷◌, ◌++◌, Option, Some, None, Result, Ok, Err, IfOk, OnOk, OnErr, Decides, ℕ, refl, sym, ap, ◌∙◌, subst}
 use Rattle.sg_base.specs.Scope.{is_scope}
 use Rattle.sg_base.proofs.Scopes.{scope_same, same_scope}
 use Rattle.sg_query.specs.declared.answer.Answer.{Answer}
@@ -13,8 +13,12 @@ use Rattle.jv_instance.specs.declared.pred.JavaPred.{JavaPred}
 use Rattle.jv_instance.specs.declared.pred.JavaPred.TheVariants.{Named, Any}
 use Rattle.jv_names.specs.Replies.{is_pred, is_query, reply_to}
 use Rattle.jv_names.proofs.Asking.{same_query as by_parts}
-use Rattle.jv_unit.specs.declared.java_script.JavaScript.{JavaScript}
+use Rattle.jv_unit.specs.declared.begun_bodies.BegunBodies.{BegunBodies}
+use Rattle.jv_unit.specs.Folder.{FolderOf}
+use Rattle.jv_unit.specs.Progress.{IsSoFar}
+use Rattle.jv_unit.specs.Script.{ScriptOf}
 use Rattle.jv_unit.specs.Scripts.{PutsReply}
+use Rattle.jv_unit.proofs.BodyRules.{so_far_added}
 
 -- ---- the test of queries decides which are equal
 
@@ -67,7 +71,7 @@ if_ok : {A E : Type 0} (P Q : Type 0) (r : Result A E) → (P → Q) → OnOk r 
 if_ok P Q (Ok x) f h = f h
 if_ok P Q (Err e) f h = tt
 
-module _ {E : Type 0} (s : JavaScript) (q copy : Query JavaPred) (a : Answer JavaDatum) (new : List (Query JavaPred × Answer JavaDatum)) (r : Result (Unit {0}) E) (none : reply_to s.replies q ≡ None) (copied : copy ≡ q) (put : reply_of by_parts s.replies copy ≡ None → OnOk r (new ≡ s.replies ++ (copy, a) ∷ [])) where
+module _ {E : Type 0} (s : ScriptOf) (q copy : Query JavaPred) (a : Answer JavaDatum) (new : List (Query JavaPred × Answer JavaDatum)) (r : Result (Unit {0}) E) (none : reply_to s.replies q ≡ None) (copied : copy ≡ q) (put : reply_of by_parts s.replies copy ≡ None → OnOk r (new ≡ s.replies ++ (copy, a) ∷ [])) where
   last : OnOk r (new ≡ s.replies ++ (copy, a) ∷ [])
   last = put (alike by_parts is_query query_test s.replies copy ∙ subst (λ (z : Query JavaPred). reply_to s.replies z ≡ None) (sym copied) none)
 
@@ -81,3 +85,9 @@ module _ {E : Type 0} (s : JavaScript) (q copy : Query JavaPred) (a : Answer Jav
   adds_reply =
       if_ok (new ≡ s.replies ++ (copy, a) ∷ []) (AddsReply (reply_to s.replies) (reply_to new) q a) r
       (λ e. subst (λ (rs : List (Query JavaPred × Answer JavaDatum)). AddsReply (reply_to s.replies) (reply_to rs) q a) (sym (behind e)) (last_replies_are_added is_query query_decides s.replies q a none)) last
+
+-- as far as a unit came, it has come with a reply more, or with the same replies
+pub so_far_put : {E : Type 0} (old new : List (Query JavaPred × Answer JavaDatum)) (q : Query JavaPred) (a : Answer JavaDatum) (w : FolderOf) (t : ℕ) (o : Option BegunBodies) (r : Result (Unit {0}) E)
+    → IfOk r (λ x. AddsReply (reply_to old) (reply_to new) q a) → OnErr r (new ≡ old) → IsSoFar (reply_to old) w t o → IsSoFar (reply_to new) w t o
+so_far_put old new q a w t o (Ok x) adds same h = so_far_added (reply_to old) (reply_to new) q a w t o adds h
+so_far_put old new q a w t o (Err e) adds same h = subst (λ (rs : List (Query JavaPred × Answer JavaDatum)). IsSoFar (reply_to rs) w t o) (sym same) h

@@ -5,5 +5,7 @@ pub mod MemberPlaces
 pub mod Owns
 pub mod Paths
 pub mod Plans
+pub mod Progress
+pub mod Script
 pub mod Scripts
 pub mod Trees

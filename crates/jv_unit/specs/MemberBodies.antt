@@ -1,5 +1,6 @@
 -- What is checked of the bodies and the initializers of a type's members.
-use Rattle.std.specs.Prelude.{ℕ, ◌&&◌, not, Bool, false, cond, List, [], ◌∷◌, ◌++◌, is_some}
+use Rattle.std.specs.Prelude.{ℕ, ◌&&◌, not, Bool, false, List, [], ◌∷◌, ◌++◌, map, is_some}
+use Rattle.std.specs.List.{filter}
 use Rattle.sg_base.specs.declared.scope.Scope.{Scope}
 use Rattle.sg_reading.specs.Reading.{done, and_then}
 use Rattle.jv_diag.specs.Plain.{DiagOf}
@@ -23,15 +24,9 @@ is_blank l s (own_method m) = false
 is_blank l s (own_ctor c) = false
 is_blank l s (default_ctor name) = false
 
--- those among some members, behind others
-abbrev pub blanks_among : FolderOf → List Scope → List ℕ → List Scope
-blanks_among w bs [] = bs
-blanks_among w bs (m ∷ ms) =
-    blanks_among w (cond (is_blank w.layout (member_scope w.layout m) (own_at w.files m)) (bs ++ member_scope w.layout m ∷ []) bs) ms
-
 -- the blank fields of a type
 abbrev pub type_blanks : FolderOf → ℕ → List Scope
-type_blanks w t = blanks_among w [] (members_of_type w.layout t)
+type_blanks w t = map (member_scope w.layout) (filter (λ m. is_blank w.layout (member_scope w.layout m) (own_at w.files m)) (members_of_type w.layout t))
 
 -- ---- bodies
 

@@ -17,25 +17,25 @@ use Rattle.sg_script.specs.Following.{FollowsPlan}
 use Rattle.jv_diag.specs.Plain.{DiagOf}
 use Rattle.jv_instance.specs.declared.java.Java.{Java}
 use Rattle.jv_names.specs.Replies.{reply_to}
-use Rattle.jv_unit.specs.declared.java_script.JavaScript.{JavaScript}
 use Rattle.jv_unit.specs.Folder.{FolderOf}
 use Rattle.jv_unit.specs.Kept.{folder_of, IsWhole}
 use Rattle.jv_unit.specs.Plans.{JavaPlan, java_plan}
+use Rattle.jv_unit.specs.Script.{ScriptOf}
 
 abbrev pub JavaUnit : Type 0
-JavaUnit = Follower JavaScript Java (List DiagOf) JavaDatum JavaPred
+JavaUnit = Follower ScriptOf Java (List DiagOf) JavaDatum JavaPred
 
 -- what the unit does
-abbrev pub plan_of : JavaScript → JavaPlan
+abbrev pub plan_of : ScriptOf → JavaPlan
 plan_of s = java_plan (folder_of (arc_value s.folder)) s.unit
 
 -- the folder is whole, and has the unit: one for each file, and behind these one for each type
-pub record IsUnit (s : JavaScript) : Type 0 where
+pub record IsUnit (s : ScriptOf) : Type 0 where
   pub whole : IsWhole (arc_value s.folder)
   pub within : s.unit < length (arc_value s.folder).layout.files + length (arc_value s.folder).layout.types
 
 -- one script is another with one reply more
-abbrev pub PutsReply : JavaScript → Query JavaPred → Answer JavaDatum → JavaScript → Type 0
+abbrev pub PutsReply : ScriptOf → Query JavaPred → Answer JavaDatum → ScriptOf → Type 0
 PutsReply before q a s = s ≡ record { alloc = before.alloc; folder = before.folder; unit = before.unit; replies = before.replies ++ (q, a) ∷ [] }
 
 -- what a call that reads a stage gives

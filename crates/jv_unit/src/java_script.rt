@@ -1,4 +1,5 @@
 use crate::folder::Folder;
+use crate::type_progress::TypeProgress;
 use crate::unit_rules::{finish_unit, read_unit, stage_count};
 use jv_diag::DiagList;
 use jv_instance::{Java, JavaDatum, JavaPred};
@@ -7,16 +8,38 @@ use sg_query::{Answer, Query, copy_query};
 use sg_reading::Known;
 use sg_script::{Script, Writes};
 use std::alloc::{AllocError, Global};
+use std::marker::Model;
 use std::sync::Arc;
 
 /// What the unit with a number does, over the folder that all units share, and the replies that have come to it. Units come in
-/// the order of files, and behind them in the order of types.
+/// the order of files, and behind them in the order of types. Contracts see these (`ScriptOf`), and not how far the check of a type's
+/// bodies came: where a reply is missing there, it goes on with the statement at the top of a body that asked for it.
 #[derive(Drop)]
 pub struct JavaScript {
     alloc: Global,
     folder: Arc<Folder, Global>,
     unit: u32,
     replies: Oracle,
+    progress: TypeProgress,
+}
+
+impl Model for JavaScript {
+    ghost use Rattle.std.specs.Prelude.{◌-◌, length};
+    ghost use Rattle.std.specs.Arc.{arc_value};
+    ghost use Rattle.std.specs.Coded.{codes};
+    ghost use Rattle.jv_names.specs.Replies.{reply_to};
+    ghost use Rattle.jv_unit.specs.contracts.folder.Folder.{the_row};
+    ghost use Rattle.jv_unit.specs.Kept.{folder_of};
+    ghost use Rattle.jv_unit.specs.Progress.{IsSoFar};
+    ghost use Rattle.jv_unit.specs.Script.{ScriptOf};
+
+    ghost Value = { ScriptOf };
+
+    ghost coded = { Prim.hlevel (codes, the_row.coded) };
+
+    ghost view = { λ s. record { alloc = s.alloc; folder = s.folder; unit = s.unit; replies = s.replies } };
+
+    ghost invariant = { λ s. IsSoFar (reply_to s.replies) (folder_of (arc_value s.folder)) (s.unit - length (arc_value s.folder).layout.files) s.progress.begun };
 }
 
 impl JavaScript {
@@ -31,6 +54,7 @@ impl JavaScript {
             folder,
             unit,
             replies: Oracle::new(alloc),
+            progress: TypeProgress::new(),
         }
     }
 }
@@ -74,6 +98,7 @@ impl Script for JavaScript {
     }
 
     fn take_back(&mut self) {
+        self.progress = TypeProgress::new();
         let _last = self.replies.take_back();
     }
 
@@ -85,6 +110,12 @@ impl Script for JavaScript {
     }
 
     fn finish(&mut self) -> Result<Known<DiagList, Query<JavaPred>>, AllocError> {
-        Known::from_found(finish_unit(self.alloc, &self.folder, &self.replies, self.unit))
+        Known::from_found(finish_unit(
+            self.alloc,
+            &self.folder,
+            &self.replies,
+            self.unit,
+            &mut self.progress,
+        ))
     }
 }

@@ -7,6 +7,7 @@
 //! script of its number (`JavaScript`), so it asks what its rules ask and gives what they give, and no unit is written by hand.
 #![tactic(auto)]
 
+mod begun_bodies;
 mod body_rules;
 mod decl_paths;
 mod file_rules;
@@ -14,6 +15,7 @@ mod folder;
 mod java_script;
 mod member_places;
 mod member_rules;
+mod type_progress;
 mod type_rules;
 mod unit_rules;
 mod units;

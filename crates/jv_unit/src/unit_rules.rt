@@ -1,17 +1,19 @@
 //! What the unit with a number reads and writes: of a file, or behind the files of a type.
 
-ghost use Rattle.std.specs.Prelude.{◌≡◌, ◌+◌, ◌<◌, length};
+ghost use Rattle.std.specs.Prelude.{◌≡◌, ◌+◌, ◌-◌, ◌<◌, length};
 ghost use Rattle.std.specs.List.{slice_get};
 ghost use Rattle.sg_reading.specs.Stop.{Reads};
 ghost use Rattle.jv_names.specs.Replies.{reply_to};
 ghost use Rattle.jv_unit.specs.Kept.{folder_of, IsWhole};
 ghost use Rattle.jv_unit.specs.Plans.{own_file_ending, own_type_ending, type_stages, unit_ending, unit_stages};
+ghost use Rattle.jv_unit.specs.Progress.{IsSoFar};
 ghost use Rattle.jv_unit.specs.Scripts.{ReadsStageOf};
 
 use crate::body_rules::finish_whole;
 use crate::file_rules::{finish_file, read_file};
 use crate::folder::Folder;
 use crate::member_rules::{member_count, read_datum};
+use crate::type_progress::TypeProgress;
 use crate::type_rules::read_type;
 use jv_diag::DiagList;
 use jv_instance::{JavaDatum, JavaPred};
@@ -95,38 +97,45 @@ fn finish_own_file(
 }
 
 /// The diagnostics of a type, unless it stands in a file of the prelude.
-#[tactic(auto, using(crate::proofs::MemberBodies::prelude_steps))]
+#[tactic(auto, using(crate::proofs::MemberBodies::prelude_steps, crate::proofs::BodyRules::whole_read))]
 fn finish_own_type(
     alloc: Global,
     w: &Folder,
     o: &Oracle,
     t: u32,
+    progress: &mut TypeProgress,
 ) -> Result<DiagList, Stop<Query<JavaPred>>>
     requires whole { IsWhole w.now }
     requires within { t < length w.now.layout.types }
-    ensures { Reads (reply_to o.now) (own_type_ending (folder_of w.now) t) result }
+    requires so_far { IsSoFar (reply_to o.now) (folder_of w.now) t progress.old.begun }
+    ensures reads { Reads (reply_to o.now) (own_type_ending (folder_of w.now) t) result }
+    ensures so_far { IsSoFar (reply_to o.now) (folder_of w.now) t progress.new.begun }
 {
     if w.layout().file_of(w.ty(t)) < 2 {
         return Ok(DiagList::empty(alloc));
     }
-    finish_whole(alloc, w, o, t)
+    finish_whole(alloc, w, o, t, progress)
 }
 
-/// The diagnostics of a unit as far as the replies tell them, or the first query that has no reply.
+/// The diagnostics of a unit as far as the replies tell them, or the first query that has no reply. That of a type goes on from where
+/// the progress says that it came to.
 pub(crate) fn finish_unit(
     alloc: Global,
     w: &Folder,
     o: &Oracle,
     unit: u32,
+    progress: &mut TypeProgress,
 ) -> Result<DiagList, Stop<Query<JavaPred>>>
     requires whole { IsWhole w.now }
     requires within { unit < length w.now.layout.files + length w.now.layout.types }
-    ensures { Reads (reply_to o.now) (unit_ending (folder_of w.now) unit) result }
+    requires so_far { IsSoFar (reply_to o.now) (folder_of w.now) (unit - length w.now.layout.files) progress.old.begun }
+    ensures reads { Reads (reply_to o.now) (unit_ending (folder_of w.now) unit) result }
+    ensures so_far { IsSoFar (reply_to o.now) (folder_of w.now) (unit - length w.now.layout.files) progress.new.begun }
 {
     let files = w.file_count();
     if unit < files {
         finish_own_file(alloc, w, o, unit)
     } else {
-        finish_own_type(alloc, w, o, unit - files)
+        finish_own_type(alloc, w, o, unit - files, progress)
     }
 }

@@ -5,14 +5,13 @@ use Rattle.sg_base.specs.declared.scope.Scope.{Scope}
 use Rattle.sg_reading.specs.Reading.{and_then}
 use Rattle.jv_diag.specs.Plain.{DiagOf}
 use Rattle.jv_layout.specs.Readers.{file_of, members_of_type}
-use Rattle.jv_layout.specs.Scopes.{member_scope, type_scope}
+use Rattle.jv_layout.specs.Scopes.{type_scope}
 use Rattle.jv_names.specs.Replies.{Rule}
 use Rattle.jv_header.specs.declared.header.Header.{Header}
 use Rattle.jv_header.specs.Depends.{depends_rule}
 use Rattle.jv_header.specs.Header.{header_rule}
 use Rattle.jv_unit.specs.Folder.{FolderOf}
-use Rattle.jv_unit.specs.MemberBodies.{all_bodies, blanks_among, is_blank, member_body, type_blanks, with_bodies}
-use Rattle.jv_unit.specs.Owns.{own_at}
+use Rattle.jv_unit.specs.MemberBodies.{all_bodies, member_body, type_blanks, with_bodies}
 use Rattle.jv_unit.specs.Plans.{behind_header, beyond_prelude, member_part, own_file_ending, type_ending, type_part, unit_ending, whole_ending, with_checks, with_members, with_parts}
 use Rattle.jv_unit.specs.Trees.{decl_at, extends_of, implements_of, name_of}
 use Rattle.sc_app.specs.FolderRun.{ruled}
@@ -28,14 +27,8 @@ module _ (w : FolderOf) (t : ℕ) where
   bodies_same blanks ds [] = refl
   bodies_same blanks ds (m ∷ ms) = ap (λ (f : List DiagOf → Rule (List DiagOf)). and_then (member_body w t blanks m) f) (fun_ext (λ (p : List DiagOf). bodies_same blanks (ds ++ p) ms))
 
-  blanks_same : (bs : List Scope) (ms : List ℕ) → blanks_among w bs ms ≡ blanks_among (ruled w) bs ms
-  blanks_same bs [] = refl
-  blanks_same bs (m ∷ ms) = blanks_same (cond (is_blank w.layout (member_scope w.layout m) (own_at w.files m)) (bs ++ member_scope w.layout m ∷ []) bs) ms
-
   all_bodies_same : (ds : List DiagOf) → all_bodies w t ds ≡ all_bodies (ruled w) t ds
-  all_bodies_same ds =
-      bodies_same (type_blanks w t) ds (members_of_type w.layout t)
-      ∙ ap (λ (bs : List Scope). with_bodies (ruled w) t bs ds (members_of_type w.layout t)) (blanks_same [] (members_of_type w.layout t))
+  all_bodies_same ds = bodies_same (type_blanks w t) ds (members_of_type w.layout t)
 
   members_same : (ds : List DiagOf) → with_members w t ds ≡ with_members (ruled w) t ds
   members_same ds = ap (λ (r : Rule (List DiagOf)). and_then r (with_checks w t)) (parts_same ds (members_of_type w.layout t))

@@ -1,8 +1,29 @@
-use Rattle.jv_unit.proofs.Putting.{puts_reply, adds_reply}
+use Rattle.std.proofs.Common.{◌-◌, ◌∙◌, IfOk, ap, length, subst}
+use Rattle.std.specs.Arc.{arc_value}
+use Rattle.sg_reading.specs.Replies.{AddsReply}
+use Rattle.jv_names.specs.Replies.{reply_to}
+use Rattle.jv_unit.specs.Kept.{folder_of}
+use Rattle.jv_unit.specs.Script.{ScriptOf}
+use Rattle.jv_unit.specs.Scripts.{PutsReply}
+use Rattle.jv_unit.proofs.Putting.{adds_reply, puts_reply, so_far_put}
 use Rattle.jv_unit.proofs.java_script.JavaScriptScript.put.Goals as goal
 
 pub returns-clause-put : goal.returns-clause-put
-returns-clause-put c = puts_reply c.args.self.now c.args.query.now c.in_ok-copy.copy c.args.answer c.put.new.self c.put.result c.requires.first c.in_ok-copy.ensures c.put.ensures.last
+returns-clause-put c =
+    subst (λ (s : ScriptOf). IfOk c.put.result (λ _. PutsReply s c.args.query.now c.args.answer (record { alloc = c.self.inside.alloc; folder = c.self.inside.folder; unit = c.self.inside.unit; replies = c.put.new.self }))) c.self.view_is
+    (puts_reply (record { alloc = c.self.inside.alloc; folder = c.self.inside.folder; unit = c.self.inside.unit; replies = c.self.inside.replies }) c.args.query.now c.in_ok-copy.copy c.args.answer c.put.new.self c.put.result
+    (ap (λ (s : ScriptOf). reply_to s.replies c.args.query.now) c.self.view_is ∙ c.requires.first) c.in_ok-copy.ensures c.put.ensures.last)
 
 pub returns-clause-reply : goal.returns-clause-reply
-returns-clause-reply c = adds_reply c.args.self.now c.args.query.now c.in_ok-copy.copy c.args.answer c.put.new.self c.put.result c.requires.first c.in_ok-copy.ensures c.put.ensures.last
+returns-clause-reply c =
+    subst (λ (s : ScriptOf). IfOk c.put.result (λ _. AddsReply (reply_to s.replies) (reply_to c.put.new.self) c.args.query.now c.args.answer)) c.self.view_is
+    (adds_reply (record { alloc = c.self.inside.alloc; folder = c.self.inside.folder; unit = c.self.inside.unit; replies = c.self.inside.replies }) c.args.query.now c.in_ok-copy.copy c.args.answer c.put.new.self c.put.result
+    (ap (λ (s : ScriptOf). reply_to s.replies c.args.query.now) c.self.view_is ∙ c.requires.first) c.in_ok-copy.ensures c.put.ensures.last)
+
+-- a reply more leaves the check as far as it came
+pub invariant_of-self : goal.invariant_of-self
+invariant_of-self c =
+    so_far_put c.self.inside.replies c.put.new.self c.args.query.now c.args.answer (folder_of (arc_value c.self.inside.folder)) (c.self.inside.unit - length (arc_value c.self.inside.folder).layout.files) c.self.inside.progress.begun c.put.result
+    (adds_reply (record { alloc = c.self.inside.alloc; folder = c.self.inside.folder; unit = c.self.inside.unit; replies = c.self.inside.replies }) c.args.query.now c.in_ok-copy.copy c.args.answer c.put.new.self c.put.result
+    (ap (λ (s : ScriptOf). reply_to s.replies c.args.query.now) c.self.view_is ∙ c.requires.first) c.in_ok-copy.ensures c.put.ensures.last)
+    c.put.ensures.err c.self.invariant
