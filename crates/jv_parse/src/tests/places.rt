@@ -182,25 +182,47 @@ const PLACES: [(&str, &str); 122] = [
     ("class A { String a = b + \"s\"", ""),
 ];
 
+// How many tokens a text has.
+fn count_of(alloc: Global, text: &str) -> Result<u32, Fail>
+    requires { length text.now ≤ 1000 }
+{
+    let tokens = lex(alloc, text.as_bytes())?;
+    if tokens.len() > 1000 {
+        return Err(Fail::new("too many tokens"));
+    }
+    Ok(tokens.len() as u32)
+}
+
+// Where a source is refused, or nothing where it is a file.
+fn place_in(alloc: Global, source: &str) -> Result<Option<u32>, Fail>
+    requires { length source.now ≤ 1000 }
+{
+    let tokens = lex(alloc, source.as_bytes())?;
+    if tokens.len() > 1000 {
+        return Err(Fail::new("too many tokens"));
+    }
+    place(alloc, source, &tokens)
+}
+
 #[test]
-fn refused_tokens(rt: HostRuntime) -> Result<(), Fail> {
+fn numbers_of_refused_tokens(rt: HostRuntime) -> Result<(), Fail> {
     for (source, wanted) in NUMBERS {
         assert!(rt; source.len() < 1000);
-        let tokens = lex(rt.alloc(), source.as_bytes())?;
-        assert!(rt; tokens.len() < 1000);
-        let found = place(rt.alloc(), source, &tokens)?;
+        let found = place_in(rt.alloc(), source)?;
         assert_eq!(rt; found, Some(wanted), "{source}");
     }
+    Ok(())
+}
+
+#[test]
+fn refused_tokens(rt: HostRuntime) -> Result<(), Fail> {
     for (front, rest) in PLACES {
+        assert!(rt; front.len() < 1000);
+        let wanted = count_of(rt.alloc(), front)?;
         let source = format!(in rt.alloc(); "{front}{rest}")?;
         assert!(rt; source.len() < 1000);
-        assert!(rt; front.len() < 1000);
-        let wanted = lex(rt.alloc(), front.as_bytes())?.len();
-        let tokens = lex(rt.alloc(), source.as_bytes())?;
-        assert!(rt; wanted < 1000);
-        assert!(rt; tokens.len() < 1000);
-        let found = place(rt.alloc(), &source, &tokens)?;
-        assert_eq!(rt; found, Some(wanted as u32), "{front}|{rest}");
+        let found = place_in(rt.alloc(), &source)?;
+        assert_eq!(rt; found, Some(wanted), "{front}|{rest}");
     }
     Ok(())
 }
