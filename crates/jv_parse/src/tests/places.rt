@@ -47,9 +47,12 @@ const NUMBERS: [(&str, u32); 8] = [
     ("class A {} }", 4),
 ];
 
-// What begins a file, and what stands behind it: its first token is refused, or where nothing does, the file ends too soon.
-const PLACES: [(&str, &str); 122] = [
-    // package
+// Sources that are cut where they cease to begin a file: what begins one, and what stands behind it. Its first token is refused, or where
+// nothing stands behind it, the file ends too soon.
+type Cut = (&'static str, &'static str);
+
+// Package.
+const PACKAGE: [Cut; 9] = [
     ("package", ""),
     ("package ", "; class A {}"),
     ("package a", ""),
@@ -59,7 +62,10 @@ const PLACES: [(&str, &str); 122] = [
     ("package a; ", "package b;"),
     ("class A {} ", "package a;"),
     ("; ", "package a;"),
-    // imports
+];
+
+// Imports.
+const IMPORTS: [Cut; 7] = [
     ("import ", "static a.b;"),
     ("import ", "*;"),
     ("import a.b", ""),
@@ -67,7 +73,10 @@ const PLACES: [(&str, &str); 122] = [
     ("import a.* ", "class A {}"),
     ("import a; ", "package b;"),
     ("class A {} ", "import a;"),
-    // headers
+];
+
+// Headers.
+const HEADERS: [Cut; 14] = [
     ("", "int a;"),
     ("", "@B class A {}"),
     ("public ", "; class A {}"),
@@ -82,7 +91,10 @@ const PLACES: [(&str, &str); 122] = [
     ("interface A extends B.C, D ", "implements E {}"),
     ("interface A ", "implements B {}"),
     ("class A {} ", "}"),
-    // members
+];
+
+// Members, first part.
+const MEMBERS_FIRST_PART: [Cut; 12] = [
     ("class A { int ", "; }"),
     ("class A { int a", ""),
     ("class A { int a", "[]; }"),
@@ -95,6 +107,10 @@ const PLACES: [(&str, &str); 122] = [
     ("class A { int f(a b ", "c) {} }"),
     ("class A { int f(", "void a) {} }"),
     ("class A { int f(final ", ") {} }"),
+];
+
+// Members, second part.
+const MEMBERS_SECOND_PART: [Cut; 11] = [
     ("class A { int f() ", "int g() {} }"),
     ("class A { void a", "; }"),
     ("class A { void", "[] f(); }"),
@@ -106,7 +122,10 @@ const PLACES: [(&str, &str); 122] = [
     ("interface A { int a = 1, b", "; }"),
     ("interface A { void f() ", "{} }"),
     ("interface A { A", "(); }"),
-    // statements
+];
+
+// Statements, first part.
+const STATEMENTS_FIRST_PART: [Cut; 16] = [
     ("class A { void m() { ", "class B {} } }"),
     ("class A { void m() { int", "; } }"),
     ("class A { void m() { a", "; } }"),
@@ -123,6 +142,10 @@ const PLACES: [(&str, &str); 122] = [
     ("class A { void m() { ", "else ; } }"),
     ("class A { void m() { while (a", "; } }"),
     ("class A { void m() { while (a) b ", "c; } }"),
+];
+
+// Statements, second part.
+const STATEMENTS_SECOND_PART: [Cut; 15] = [
     ("class A { void m() { do ; ", "until (a); } }"),
     ("class A { void m() { do ; while (a) ", "} }"),
     ("class A { void m() { for (;", ") ; } }"),
@@ -138,7 +161,10 @@ const PLACES: [(&str, &str); 122] = [
     ("class A { A() { super.a", "; } }"),
     ("class A { A() { f(); super", "(); } }"),
     ("class A { void m() { if (a) { b(); }", ""),
-    // expressions
+];
+
+// Expressions, first part.
+const EXPRESSIONS_FIRST_PART: [Cut; 12] = [
     ("class A { int a = ", "; }"),
     ("class A { int a = b ", "c; }"),
     ("class A { int a = b +", "; }"),
@@ -151,6 +177,10 @@ const PLACES: [(&str, &str); 122] = [
     ("class A { int a = (", "); }"),
     ("class A { int a = (b + c", "; }"),
     ("class A { int a = ((b) + (c ", "d)); }"),
+];
+
+// Expressions, second part.
+const EXPRESSIONS_SECOND_PART: [Cut; 12] = [
     ("class A { int a = b ? c", "; }"),
     ("class A { int a = b ? c : d ", "= e; }"),
     ("class A { int a = b + c ", "= d; }"),
@@ -163,20 +193,29 @@ const PLACES: [(&str, &str); 122] = [
     ("class A { int a = -2147483648 ", ".b; }"),
     ("class A { int[] a = {1, ", ", 2}; }"),
     ("class A { int[] a = {, ", "1}; }"),
-    // casts
+];
+
+// Casts.
+const CASTS: [Cut; 6] = [
     ("class A { int a = (int) ", "; }"),
     ("class A { int a = (int ", "b); }"),
     ("class A { int a = (int[]) ", "-b; }"),
     ("class A { int a = (B[]) ", "; }"),
     ("class A { int a = (B) c ", "d; }"),
     ("class A { int a = (b) - ", "; }"),
-    // array creations
+];
+
+// Array creations.
+const ARRAY_CREATIONS: [Cut; 5] = [
     ("class A { int[] a = new int", "; }"),
     ("class A { int[] a = new int", "(1); }"),
     ("class A { int[] a = new int[]", "; }"),
     ("class A { int[] a = new int[][", "3]; }"),
     ("class A { int[] a = new int[3][] ", "{}; }"),
-    // literals at the end
+];
+
+// Literals at the end.
+const LITERALS_AT_THE_END: [Cut; 3] = [
     ("class A { int a = 1", ""),
     ("class A { int a = -2147483648", ""),
     ("class A { String a = b + \"s\"", ""),
@@ -214,16 +253,106 @@ fn numbers_of_refused_tokens(rt: HostRuntime) -> Result<(), Fail> {
     Ok(())
 }
 
-#[test]
-fn refused_tokens(rt: HostRuntime) -> Result<(), Fail> {
-    for (front, rest) in PLACES {
-        assert!(rt; front.len() < 1000);
-        let wanted = count_of(rt.alloc(), front)?;
-        let source = format!(in rt.alloc(); "{front}{rest}")?;
-        assert!(rt; source.len() < 1000);
-        let found = place_in(rt.alloc(), &source)?;
-        assert_eq!(rt; found, Some(wanted), "{front}|{rest}");
+// The first of these sources that is refused elsewhere than where it is cut, where there is one.
+fn first_misplaced<'a>(
+    alloc: Global,
+    sources: &[(&'a str, &'a str)],
+) -> Result<Option<&'a str>, Fail> {
+    for (front, rest) in sources {
+        if front.len() + rest.len() > 1000 {
+            return Err(Fail::new("too long"));
+        }
+        let wanted = count_of(alloc, front)?;
+        let mut source = String::from_str(alloc, front)?;
+        source.push_str(rest)?;
+        if place_in(alloc, source.as_str())? != Some(wanted) {
+            return Ok(Some(front));
+        }
     }
+    Ok(None)
+}
+
+#[test]
+fn package_are_cut_where_they_cease(rt: HostRuntime) -> Result<(), Fail> {
+    let misplaced = first_misplaced(rt.alloc(), &PACKAGE)?;
+    assert_eq!(rt; misplaced, None);
+    Ok(())
+}
+
+#[test]
+fn imports_are_cut_where_they_cease(rt: HostRuntime) -> Result<(), Fail> {
+    let misplaced = first_misplaced(rt.alloc(), &IMPORTS)?;
+    assert_eq!(rt; misplaced, None);
+    Ok(())
+}
+
+#[test]
+fn headers_are_cut_where_they_cease(rt: HostRuntime) -> Result<(), Fail> {
+    let misplaced = first_misplaced(rt.alloc(), &HEADERS)?;
+    assert_eq!(rt; misplaced, None);
+    Ok(())
+}
+
+#[test]
+fn members_first_part_are_cut_where_they_cease(rt: HostRuntime) -> Result<(), Fail> {
+    let misplaced = first_misplaced(rt.alloc(), &MEMBERS_FIRST_PART)?;
+    assert_eq!(rt; misplaced, None);
+    Ok(())
+}
+
+#[test]
+fn members_second_part_are_cut_where_they_cease(rt: HostRuntime) -> Result<(), Fail> {
+    let misplaced = first_misplaced(rt.alloc(), &MEMBERS_SECOND_PART)?;
+    assert_eq!(rt; misplaced, None);
+    Ok(())
+}
+
+#[test]
+fn statements_first_part_are_cut_where_they_cease(rt: HostRuntime) -> Result<(), Fail> {
+    let misplaced = first_misplaced(rt.alloc(), &STATEMENTS_FIRST_PART)?;
+    assert_eq!(rt; misplaced, None);
+    Ok(())
+}
+
+#[test]
+fn statements_second_part_are_cut_where_they_cease(rt: HostRuntime) -> Result<(), Fail> {
+    let misplaced = first_misplaced(rt.alloc(), &STATEMENTS_SECOND_PART)?;
+    assert_eq!(rt; misplaced, None);
+    Ok(())
+}
+
+#[test]
+fn expressions_first_part_are_cut_where_they_cease(rt: HostRuntime) -> Result<(), Fail> {
+    let misplaced = first_misplaced(rt.alloc(), &EXPRESSIONS_FIRST_PART)?;
+    assert_eq!(rt; misplaced, None);
+    Ok(())
+}
+
+#[test]
+fn expressions_second_part_are_cut_where_they_cease(rt: HostRuntime) -> Result<(), Fail> {
+    let misplaced = first_misplaced(rt.alloc(), &EXPRESSIONS_SECOND_PART)?;
+    assert_eq!(rt; misplaced, None);
+    Ok(())
+}
+
+#[test]
+fn casts_are_cut_where_they_cease(rt: HostRuntime) -> Result<(), Fail> {
+    let misplaced = first_misplaced(rt.alloc(), &CASTS)?;
+    assert_eq!(rt; misplaced, None);
+    Ok(())
+}
+
+#[test]
+fn array_creations_are_cut_where_they_cease(rt: HostRuntime) -> Result<(), Fail> {
+    let misplaced = first_misplaced(rt.alloc(), &ARRAY_CREATIONS)?;
+    assert_eq!(rt; misplaced, None);
+    Ok(())
+}
+
+#[test]
+fn literals_at_the_end_are_cut_where_they_cease(rt: HostRuntime) -> Result<(), Fail> {
+    let misplaced = first_misplaced(rt.alloc(), &LITERALS_AT_THE_END)?;
+    assert_eq!(rt; misplaced, None);
     Ok(())
 }
 
