@@ -18,6 +18,8 @@ pub(crate) struct Board<T: Task> {
     away: u64,
     /// Whether no worker is to take a task any more.
     stops: bool,
+    /// Whether at the last pick those that waited went on anew.
+    renewed: bool,
 }
 
 impl<T: Task> TaskHolder for Board<T> {
@@ -45,6 +47,7 @@ impl<T: Task> Board<T> {
             ready,
             away: 0,
             stops: false,
+            renewed: false,
         };
         board.list_ready();
         Ok(board)
@@ -89,6 +92,7 @@ impl<T: Task> Board<T> {
     pub(crate) fn pick(&mut self) -> Option<T>
         ensures { (h : ℕ → ℕ) → MatchOption result (weigh h (⟦<Board<T> as TaskHolder>⟧.numbers self.new) ≡ weigh h (⟦<Board<T> as TaskHolder>⟧.numbers self.old)) (λ t. h (T.number t) + weigh h (⟦<Board<T> as TaskHolder>⟧.numbers self.new) ≡ weigh h (⟦<Board<T> as TaskHolder>⟧.numbers self.old)) }
     {
+        self.renewed = false;
         if self.stops {
             return None;
         }
@@ -100,6 +104,7 @@ impl<T: Task> Board<T> {
         }
         self.list_ready();
         if let Some(task) = self.take_listed() {
+            self.renewed = true;
             return Some(task);
         }
         self.stops = true;
@@ -138,9 +143,10 @@ impl<T: Task> Board<T> {
         1
     }
 
-    /// Whether no worker is to take a task any more.
-    pub(crate) fn is_over(&self) -> bool {
-        self.stops
+    /// Whether all workers are to look at the board after the last pick: those that waited went on anew, or no worker is to take
+    /// a task any more.
+    pub(crate) fn is_for_all(&self) -> bool {
+        self.stops || self.renewed
     }
 
     /// All tasks in their order, once all are back.

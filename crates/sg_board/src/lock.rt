@@ -8,7 +8,10 @@ use crossbeam_queue::protocol::{Join, Lesson, Outcome, Protocol, Split};
 use crossbeam_queue::{Pass, RuledArrayQueue};
 use std::alloc::Global;
 use std::sync::Wait;
-use std::thread;
+use std::{hint, thread};
+
+/// So many looks at the lock before a worker yields between two of them. Who has the board keeps it for a short time alone.
+const SPIN_LOOKS: u32 = 64;
 
 /// What lies under the lock, by the numbers of its tasks.
 pub(crate) trait TaskHolder {
@@ -96,13 +99,25 @@ pub(crate) fn take<B: TaskHolder, R: Wait>(
     ensures pass { IsPassOf lock.now pass.new }
     ensures took { Took B.all (view pass.old) (B.numbers result) (view pass.new) }
 {
+    let mut looks = 0u32;
     for _ in rt.forever() {
-        match lock.try_pop_as::<TakesBoard>(pass) {
-            Some(board) => return board,
-            None => thread::yield_now(),
+        if let Some(board) = lock.try_pop_as::<TakesBoard>(pass) {
+            return board;
         }
+        pause(looks);
+        looks = looks.saturating_add(1);
     }
     unreachable!()
+}
+
+/// Lets time pass between two looks at the lock, of which so many were made before. Nobody sleeps here, so nobody has to be
+/// woken: who waits for the board looks again by itself.
+fn pause(looks: u32) {
+    if looks < SPIN_LOOKS {
+        hint::spin_loop();
+    } else {
+        thread::yield_now();
+    }
 }
 
 /// Gives the board back. A task that left it is at the worker from now on, and one that came to it no more.

@@ -130,6 +130,67 @@ fn workers_run_at_once(rt: HostRuntime) -> Result<(), Fail> {
     Ok(())
 }
 
+/// One of two tasks, of which one goes on for ever.
+#[derive(Drop)]
+struct Runner {
+    number: u32,
+    ghost within: { number < 2 },
+}
+
+impl Task for Runner {
+    ghost total = { 2 };
+
+    ghost number = { λ r. r.number };
+
+    fn number(&self) -> u32 {
+        self.number
+    }
+
+    fn woken(&self) -> &[u32] {
+        &[]
+    }
+}
+
+/// A step of a runner: the second goes on, and the first stops both once the second runs.
+fn go_on(runs: &AtomicU64, number: u32) -> Progress {
+    if number > 0 {
+        runs.store(1, Ordering::SeqCst);
+        return Progress::Goes;
+    }
+    for _turn in 0..PATIENCE {
+        if runs.load(Ordering::SeqCst) > 0 {
+            return Progress::StopsAll;
+        }
+    }
+    Progress::StopsAll
+}
+
+/// Two runners.
+fn runners(alloc: Global) -> Result<Vec<Runner>, AllocError>
+    ensures { IfOk result (λ v. map (λ r. r.number) v.items ≡ counting 0 2) }
+{
+    let mut list = Vec::new(alloc);
+    list.push(Runner { number: 0 })?;
+    list.push(Runner { number: 1 })?;
+    Ok(list)
+}
+
+#[test]
+fn a_stop_ends_a_task_that_goes_on(rt: HostRuntime) -> Result<(), Fail> {
+    let runs = AtomicU64::new(0);
+    let list = runners(rt.alloc())?;
+    let step = |runner: Runner| -> (Runner, Progress)
+        ensures { result.0.number ≡ runner.number }
+    {
+        let told = go_on(&runs, runner.number);
+        (runner, told)
+    };
+    let done = run(&rt, rt.alloc(), list, 2, &step)?;
+    assert_eq!(rt; done.len(), 2);
+    assert_eq!(rt; runs.load(Ordering::SeqCst), 1);
+    Ok(())
+}
+
 /// Whom a task waits for: the one before it and the first for the last, the one before it, or the first.
 #[derive(Clone, Copy, Debug)]
 enum Shape {

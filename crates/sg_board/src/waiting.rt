@@ -3,25 +3,67 @@
 use std::sync::Wait;
 use std::sync::atomic::{AtomicU64, Ordering};
 
+/// What workers tell one another beside the board.
+#[derive(Drop)]
+pub(crate) struct News {
+    /// How many news there were.
+    told: AtomicU64,
+    /// One where every task is to stop, and else none.
+    stops: AtomicU64,
+}
+
+impl News {
+    /// None yet.
+    pub(crate) fn new() -> News {
+        News {
+            told: AtomicU64::new(0),
+            stops: AtomicU64::new(0),
+        }
+    }
+}
+
+/// Tells those that go on with a task that every task is to stop.
+pub(crate) fn tell_stop(news: &News) {
+    news.stops.store(1, Ordering::SeqCst);
+}
+
+/// Whether every task is to stop.
+pub(crate) fn is_stopped(news: &News) -> bool {
+    news.stops.load(Ordering::SeqCst) > 0
+}
+
 /// The number of the last news.
-pub(crate) fn last_news(news: &AtomicU64) -> u64 {
-    news.load(Ordering::SeqCst)
+pub(crate) fn last_news(news: &News) -> u64 {
+    news.told.load(Ordering::SeqCst)
 }
 
 /// Sleeps until there are news after those of this number, or for no reason a shorter time.
-pub(crate) fn wait_for_news<R: Wait>(rt: &R, news: &AtomicU64, seen: u64) {
-    news.park(rt, (seen & 0xffff_ffff) as u32);
+pub(crate) fn wait_for_news<R: Wait>(rt: &R, news: &News, seen: u64) {
+    news.told.park(rt, (seen & 0xffff_ffff) as u32);
 }
 
 /// Tells those that wait of so many tasks that became ready, and of which the teller takes one.
-pub(crate) fn tell_news(news: &AtomicU64, ready: u64) {
-    if ready == 0 {
+///
+/// No task is left on the board while others sleep and too few are awake to take it. A worker sleeps only after it found none
+/// ready. From then on the teller looks at the board next, whatever its own task told, and takes one task for itself, so that
+/// it has none to tell of where one became ready; of each further one, one more worker is told. Tasks that go on anew without
+/// a step are told of by `tell_all_if`.
+pub(crate) fn tell_news(news: &News, ready: u64) {
+    if ready <= 1 {
         return;
     }
-    news.fetch_add(1, Ordering::SeqCst);
-    if ready == 1 {
-        news.wake_one();
+    news.told.fetch_add(1, Ordering::SeqCst);
+    if ready == 2 {
+        news.told.wake_one();
     } else {
-        news.wake_all();
+        news.told.wake_all();
+    }
+}
+
+/// Tells all that wait to look at the board, if there is something for them.
+pub(crate) fn tell_all_if(news: &News, is_for_all: bool) {
+    if is_for_all {
+        news.told.fetch_add(1, Ordering::SeqCst);
+        news.told.wake_all();
     }
 }

@@ -9,17 +9,19 @@ use crate::board::Board;
 use crate::lock::{KnowsAll, Lock, OnePart, TaskHolder, give, take};
 use crate::progress::Progress;
 use crate::task::Task;
-use crate::waiting::{last_news, tell_news, wait_for_news};
+use crate::waiting::{
+    News, is_stopped, last_news, tell_all_if, tell_news, tell_stop, wait_for_news,
+};
 use crate::worker_view::WorkerView;
 use crossbeam_queue::Pass;
 use std::alloc::{AllocError, Global};
 use std::sync::Wait;
-use std::sync::atomic::AtomicU64;
 use std::thread;
 use std::thread::Threads;
 
 /// Runs tasks in so many threads, each of which has one task at a time, until no step is left of any, or one told that all
-/// are to stop. All tasks come back in their order. The tasks are listed by their numbers, which a step keeps.
+/// are to stop: then each worker ends before its next step. All tasks come back in their order. The tasks are listed by their numbers,
+/// which a step keeps.
 ///
 /// A worker keeps its task as long as that goes on and lets no other go on, and sleeps while no task is ready. A task that
 /// waits is ready again once a step names it as woken, also where that step came before the task was put back; and where no
@@ -45,7 +47,7 @@ pub fn run<T: Task + Send, F: Fn(T) -> (T, Progress) + Sync, R: Threads + Wait +
     let (lock, mut pass) = made;
     give(rt, &lock, &mut pass, board);
     give_parts(&lock, &mut pass, &mut passes, workers);
-    let news = AtomicU64::new(0);
+    let news = News::new();
     let passes = thread::map_vec(
         rt,
         passes,
@@ -99,7 +101,7 @@ fn work<T: Task, F: Fn(T) -> (T, Progress), R: Wait>(
     rt: &R,
     step: &F,
     lock: &Lock<Board<T>>,
-    news: &AtomicU64,
+    news: &News,
     pass: Pass<Board<T>, WorkerView>,
 ) -> Pass<Board<T>, WorkerView>
     requires steps { (t : T) → F.pre step.now t }
@@ -121,7 +123,7 @@ fn work_once<T: Task, F: Fn(T) -> (T, Progress), R: Wait>(
     rt: &R,
     step: &F,
     lock: &Lock<Board<T>>,
-    news: &AtomicU64,
+    news: &News,
     pass: &mut Pass<Board<T>, WorkerView>,
 ) -> bool
     requires steps { (t : T) → F.pre step.now t }
@@ -130,23 +132,31 @@ fn work_once<T: Task, F: Fn(T) -> (T, Progress), R: Wait>(
     ensures { IsPassOf lock.now pass.new × IsFree (view pass.new) × ((view pass.new).parts ≡ (view pass.old).parts) }
 {
     let seen = last_news(news);
-    let (picked, over) = take_task(rt, lock, pass);
+    let (picked, is_for_all) = take_task(rt, lock, pass);
+    tell_all_if(news, is_for_all);
     let Some(task) = picked else {
-        if over {
-            tell_news(news, u64::MAX);
+        if is_for_all {
             return false;
         }
         wait_for_news(rt, news, seen);
         return true;
     };
-    let (task, told) = run_on::<T, F, R>(rt, step, task);
+    let (task, told) = run_on::<T, F, R>(rt, step, news, task);
+    if told.stops_all() {
+        tell_stop(news);
+    }
     let ready = put_back(rt, lock, pass, task, told);
     tell_news(news, ready);
     true
 }
 
-/// Steps of a task, until it does not go on, or lets others go on.
-fn run_on<T: Task, F: Fn(T) -> (T, Progress), R: Wait>(rt: &R, step: &F, task: T) -> (T, Progress)
+/// Steps of a task, until it does not go on, or lets others go on, or every task is to stop.
+fn run_on<T: Task, F: Fn(T) -> (T, Progress), R: Wait>(
+    rt: &R,
+    step: &F,
+    news: &News,
+    task: T,
+) -> (T, Progress)
     requires steps { (t : T) → F.pre step.now t }
     requires keeps { (t : T) (r : T × ProgressOf) → F.post step.now t r → T.number r.0 ≡ T.number t }
     ensures { T.number result.0 ≡ T.number task }
@@ -154,7 +164,7 @@ fn run_on<T: Task, F: Fn(T) -> (T, Progress), R: Wait>(rt: &R, step: &F, task: T
     let mut task = task;
     for _ in rt.forever() {
         let (next, told) = step(task);
-        if !told.goes() || !next.woken().is_empty() {
+        if !told.goes() || !next.woken().is_empty() || is_stopped(news) {
             return (next, told);
         }
         task = next;
@@ -162,7 +172,8 @@ fn run_on<T: Task, F: Fn(T) -> (T, Progress), R: Wait>(rt: &R, step: &F, task: T
     unreachable!()
 }
 
-/// A task, where there is one to take, and whether all is over.
+/// A task, where there is one to take, and whether all workers are to look at the board: with a task, since others that waited
+/// go on anew, and with none, since all is over.
 fn take_task<T: Task, R: Wait>(
     rt: &R,
     lock: &Lock<Board<T>>,
@@ -174,9 +185,9 @@ fn take_task<T: Task, R: Wait>(
 {
     let mut board = take(rt, lock, pass);
     let picked = board.pick();
-    let over = board.is_over();
+    let is_for_all = board.is_for_all();
     give(rt, lock, pass, board);
-    (picked, over)
+    (picked, is_for_all)
 }
 
 /// Lets those tasks go on that the task woke, and puts the task back after a step that told this. How many more tasks are

@@ -38,7 +38,12 @@ module _ {I R D P : Type 0} (wants : P → D → Bool) (same : D → D → Bool)
 
   module _ (b : BrokerOf D) (l : Lock (CoreOf I R D P)) (bview : (record { turn = l.turn; opening = l.root.opening; kinds = l.root.kinds }) ≡ b)
       (s : SeatOf I R D P) (t : Known (Entry I R D P) (CoreOf I R D P)) (n : ℕ) (view : seat_view t n ≡ s) (number : t.number ≡ n) (at : IsAt b s)
-      (core : CoreOf I R D P) (rooted : begun {I = I} {R = R} {P = P} core.opening core.kinds ≡ l.root) (told : own t.number core.log ≡ t.mine) (ok : IsCore wants same core) where
+      (core : CoreOf I R D P) (rooted : begun {I = I} {R = R} {P = P} core.opening core.kinds ≡ l.root) (told : own t.number core.log ≡ t.mine)
+      -- the core in its box, as it is looked at and as the operation finds it
+      (looked : CoreOf I R D P) (looked_is : looked ≡ core) (looked_ok : IsCore wants same looked) (found : CoreOf I R D P) (found_is : found ≡ core) where
+    ok : IsCore wants same core
+    ok = subst (λ (c : CoreOf I R D P). IsCore wants same c) looked_is looked_ok
+
     opening_is : s.opening ≡ core.opening
     opening_is = at.1 ∙ sym (ap (λ (x : BrokerOf D). x.opening) bview) ∙ sym (ap (λ (c : CoreOf I R D P). c.opening) rooted)
 
@@ -58,14 +63,21 @@ module _ {I R D P : Type 0} (wants : P → D → Bool) (same : D → D → Bool)
     mine_is = sym (ap (λ (x : SeatOf I R D P). x.mine) view) ∙ sym own_is
 
     -- what the seat's own events allow, the core allows
-    pub may_there : (op : Op I R D P) → MayBy (setting_of wants same s.opening s.kinds) s.mine s.number op → MayDo wants same core n op
+    pub may_there : (op : Op I R D P) → MayBy (setting_of wants same s.opening s.kinds) s.mine s.number op → MayDo wants same found n op
     may_there op may =
-        own_allow I R D P (setting wants same core) core.log n op ok.opens ok.runs
+        subst (λ (c : CoreOf I R D P). MayDo wants same c n op) (sym found_is)
+        (own_allow I R D P (setting wants same core) core.log n op ok.opens ok.runs
         (subst (λ (u : ℕ). MayBy (setting wants same core) (own n core.log) u op) number_is
         (subst (λ (es : List (Entry I R D P)). MayBy (setting wants same core) es s.number op) mine_is
-        (subst (λ (z : Setting D P). MayBy z s.mine s.number op) setting_is may)))
+        (subst (λ (z : Setting D P). MayBy z s.mine s.number op) setting_is may))))
 
-    module _ (op : Op I R D P) (new : CoreOf I R D P) (r : Result (Reply I D P) AllocError) (applied : IfOk r (Applies wants same core new n op)) (unchanged : OnErr r (new ≡ core)) (new_ok : IsCore wants same new) where
+    module _ (op : Op I R D P) (new : CoreOf I R D P) (r : Result (Reply I D P) AllocError) (applied_there : IfOk r (Applies wants same found new n op)) (unchanged_there : OnErr r (new ≡ found)) (new_ok : IsCore wants same new) where
+      applied : IfOk r (Applies wants same core new n op)
+      applied = subst (λ (c : CoreOf I R D P). IfOk r (Applies wants same c new n op)) found_is applied_there
+
+      unchanged : OnErr r (new ≡ core)
+      unchanged = subst (λ (c : CoreOf I R D P). OnErr r (new ≡ c)) found_is unchanged_there
+
       pub root_stays : begun {I = I} {R = R} {P = P} new.opening new.kinds ≡ l.root
       root_stays = let a = alike_by core new n op r applied unchanged in (λ i. begun {I = I} {R = R} {P = P} (a.0 i) (a.1 i)) ∙ rooted
 

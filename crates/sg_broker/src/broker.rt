@@ -41,8 +41,8 @@ impl<I: Instance, R> Model for Broker<I, R> {
 }
 
 impl<I: Instance, R: Drop> Broker<I, R> {
-    /// A broker of a core with no event yet, and a seat for each unit, in the order of their numbers. Want of memory drops the
-    /// core.
+    /// A broker of a core with no event yet, and a seat for each unit, in the order of their numbers. The core is moved to the
+    /// heap, where it stays until the broker is closed. Want of memory drops the core.
     ///
     /// Its cost grows with the number of units.
     pub fn open(
@@ -56,6 +56,7 @@ impl<I: Instance, R: Drop> Broker<I, R> {
     {
         let units = core.units();
         let places = Vec::with_capacity(alloc, units as usize)?;
+        let core = Box::new(alloc, core)?;
         let (turn, seats) = Turn::new(alloc, CoreInTurn { core }, units)?;
         let places = seat_all(&turn, seats, places, units);
         Ok((Broker { turn }, places))
@@ -64,7 +65,8 @@ impl<I: Instance, R: Drop> Broker<I, R> {
     /// Waits for the seat's turn, and applies one operation of its unit. An event is added to the log, and the log up to it
     /// begins with all that the seat had seen. After want of memory the log is as it was, and the seat is spent.
     ///
-    /// Costs what the operation costs (`Core::apply`), which others wait for, and a turn (`Turn::lock`).
+    /// Costs what the operation costs (`Core::apply`), which others wait for, and a turn (`Turn::lock`). The core is changed where
+    /// it is: only a pointer to it changes hands.
     pub fn apply<Rt: Wait>(
         &self,
         rt: &Rt,
@@ -104,6 +106,7 @@ impl<I: Instance, R: Drop> Broker<I, R> {
         let Broker { turn } = self;
         let all = gather_all(&turn, first, left);
         let CoreInTurn { core } = turn.close_with(all);
+        let core = Box::into_inner(core);
         let _log = core.log();
         core
     }

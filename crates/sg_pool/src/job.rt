@@ -1,4 +1,4 @@
-ghost use Rattle.std.specs.Prelude.{◌≡◌, Some, false};
+ghost use Rattle.std.specs.Prelude.{◌≡◌, Some, IfOk, false};
 ghost use Rattle.sg_pool.specs.declared.doing.Doing.TheVariants.{HasEnded};
 
 use crate::after::After;
@@ -7,14 +7,16 @@ use crate::running::{Running, step};
 use crate::site::Site;
 use sg_board::{Progress, Task};
 use sg_unit::{Desk, Gate, Unit};
+use std::alloc::{AllocError, Global};
 use std::marker::{Model, PhantomData};
 use std::sync::Wait;
 use std::thread::Threads;
 
-/// A unit that sits at the desk of its run, under its number. Contracts see it as the unit that is driven.
+/// A unit that sits at the desk of its run, under its number. It stays where it is on the heap, so that only a pointer changes
+/// hands at a step. Contracts see it as the unit that is driven.
 #[derive(Drop)]
 pub(crate) struct Job<U: Unit, K: Desk<Inst = U::Inst, Outcome = U::Outcome>, N: Site<U, K>> {
-    running: Running<U, K::Place>,
+    running: Box<Running<U, K::Place>>,
     site: PhantomData<N>,
 }
 
@@ -24,24 +26,28 @@ impl<U: Unit, K: Desk<Inst = U::Inst, Outcome = U::Outcome>, N: Site<U, K>> Mode
 
     ghost Value = { RunningOf U K.Place };
 
-    ghost view = { λ j. j.running };
+    ghost view = { λ j. j.running.value };
 
-    ghost invariant = { λ j. IsAtSite U.fixed K.Place.number K.sits N.desk N.start j.running };
+    ghost invariant = { λ j. IsAtSite U.fixed K.Place.number K.sits N.desk N.start j.running.value };
 }
 
 impl<U: Unit, K: Desk<Inst = U::Inst, Outcome = U::Outcome>, N: Site<U, K>> Job<U, K, N> {
-    ghost use Rattle.std.specs.Prelude.{◌≡◌, false};
+    ghost use Rattle.std.specs.Prelude.{◌≡◌, IfOk, false};
     ghost use Rattle.sg_pool.specs.Pool.{IsAtSite, IsKept, has_ended};
 
-    /// A unit of the run.
-    pub(crate) fn new(running: Running<U, K::Place>) -> Job<U, K, N>
+    /// A unit of the run, which is moved to the heap. Want of memory drops the unit.
+    pub(crate) fn new(
+        alloc: Global,
+        running: Running<U, K::Place>,
+    ) -> Result<Job<U, K, N>, AllocError>
         requires { IsAtSite U.fixed K.Place.number K.sits N.desk N.start running }
-        ensures { result ≡ running }
+        ensures { IfOk result (λ j. j ≡ running) }
     {
-        Job {
+        let running = Box::new(alloc, running)?;
+        Ok(Job {
             running,
             site: PhantomData,
-        }
+        })
     }
 
     /// Whether want of memory was met.
@@ -76,7 +82,7 @@ impl<U: Unit, K: Desk<Inst = U::Inst, Outcome = U::Outcome>, N: Site<U, K>> Job<
         ensures seat { result ≡ self.seat }
         ensures kept { IsKept U.Inst.wants U.Inst.same_datum U.opening U.kinds U.owes_edge U.owes_datum U.may_ask U.comes_to U.number U.fixed U.stands K.Place.number K.Place.mine K.Place.spent K.Place.opening K.Place.kinds K.sits N.desk N.start self }
     {
-        self.running.into_seat()
+        Box::into_inner(self.running).into_seat()
     }
 }
 

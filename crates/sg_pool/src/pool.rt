@@ -22,6 +22,7 @@ use std::thread::Threads;
 /// tells them to wait for ever, this does not return. Where a thread cannot be started, the caller's thread does its work.
 /// The gate is told of each step of a unit before and after it, and of steps of several units at once. Each step costs what
 /// `step` costs; taking a unit up and laying it down takes constant time, and more for each unit that is woken.
+/// Each unit and its seat are moved to the heap at the beginning, and from there only at the end.
 pub fn run_pool<
     U: Unit + Send,
     K: Desk<Inst = U::Inst, Outcome = U::Outcome> + Sync,
@@ -78,7 +79,7 @@ where
 {
     let room = Vec::with_capacity(alloc, units.len())?;
     let seats = Vec::with_capacity(alloc, units.len())?;
-    let jobs = as_jobs::<U, K, N>(desk, units, room);
+    let jobs = as_jobs::<U, K, N>(alloc, desk, units, room)?;
     let step = |job: Job<U, K, N>| -> (Job<U, K, N>, Progress)
         requires { N.desk ≡ Some desk.now }
         ensures { K.Place.number result.0.seat ≡ K.Place.number job.seat }
@@ -104,24 +105,26 @@ fn take_step<
     (job, told)
 }
 
-/// The units as those of the site's run.
+/// The units as those of the site's run, each on the heap. Want of memory drops them.
 fn as_jobs<U: Unit, K: Desk<Inst = U::Inst, Outcome = U::Outcome>, N: Site<U, K>>(
+    alloc: Global,
     desk: &K,
     units: Vec<Running<U, K::Place>>,
     room: Vec<Job<U, K, N>>,
-) -> Vec<Job<U, K, N>>
+) -> Result<Vec<Job<U, K, N>>, AllocError>
     requires desk { N.desk ≡ Some desk.now }
     requires start { N.start ≡ map (λ r. r.unit) units.items }
     requires numbered { AreNumbered K.Place.number units.items }
     requires seats { All (λ r. K.sits desk.now r.seat) units.items }
     requires room { (room.items ≡ []) × (length units.items ≤ vec_capacity room) }
-    ensures { result.items ≡ units.items }
+    ensures { IfOk result (λ v. v.items ≡ units.items) }
 {
     let mut jobs = room;
     let mut left = units;
     while let Some(running) = left.pop() {
-        jobs.push_reserved(Job::new(running));
+        let job = Job::new(alloc, running)?;
+        jobs.push_reserved(job);
     }
     jobs.reverse();
-    jobs
+    Ok(jobs)
 }

@@ -2,6 +2,7 @@
 use Rattle.std.specs.Prelude.{◌≡◌, List, [], ◌∷◌, ◌++◌, Option, None, Bool, ◌⊎◌, ◌↔◌, Decides}
 use Rattle.std.specs.List.{Contains}
 use Rattle.sg_reading.specs.declared.known.Known.{Known}
+use Rattle.sg_reading.specs.Progress.{HasResidual}
 use Rattle.sg_reading.specs.Reading.{Reading, Gives, Asks, Needs, IsFunctional, AnswersAlike, AskedAlike, and_then}
 use Rattle.sg_reading.specs.Replies.{reply_of, AddsReply}
 use Rattle.sg_reading.specs.Stop.{Replied, IsKnown}
@@ -55,6 +56,14 @@ abbrev pub AsksInTurn : {Q A : Type 0} → Type 0 → Type 0 → (Q → A → Ty
 AsksInTurn {Q} {A} U W R =
     (r : Reading Q A U) (f : U → Reading Q A W) (p : Q)
     → (Asks R (and_then r f) p) ↔ (Asks R r p ⊎ ((v : U) × (qs : List Q) × Gives R r v qs × Asks R (f v) p))
+
+-- where a reply is added, what is left of a rule stays what is left of it
+abbrev pub ResidualsStay : Type 0 → Type 0 → Type 0 → Type 0
+ResidualsStay Q A U = (old new : Q → Option A) (q : Q) (a : A) (r s : Reading Q A U) → AddsReply old new q a → HasResidual old r s → HasResidual new r s
+
+-- what is left of a rule comes to what the rule comes to
+abbrev pub ResidualsAreKnown : Type 0 → Type 0 → Type 0 → Type 0
+ResidualsAreKnown Q A U = (reply : Q → Option A) (r s : Reading Q A U) (k : Known U Q) → HasResidual reply r s → IsKnown reply s k → IsKnown reply r k
 
 -- where a test decides which queries are equal, a reply that is put last, to a query without one, is added, and no other reply changes
 abbrev pub LastRepliesAreAdded : {Q : Type 0} → Type 0 → (Q → Q → Bool) → Type 0

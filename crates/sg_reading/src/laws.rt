@@ -13,6 +13,8 @@ ghost use Rattle.sg_reading.specs.Law.{
   GivesInTurn,
   AsksInTurn,
   LastRepliesAreAdded,
+  ResidualsAreKnown,
+  ResidualsStay,
 };
 
 use crate::answers::Answers;
@@ -53,4 +55,11 @@ pub fn readings_follow_one_another<U, W, R: Answers>()
 /// A reply that is put last, to a query without one, is added, and no other reply changes.
 pub fn last_replies_are_added<Q: Eq, A>()
     ensures { LastRepliesAreAdded A Q.eq }
+{}
+
+/// What is left of a rule, once the queries that it asks first have replies, stays so where replies are added, and comes to what the
+/// rule comes to.
+pub fn residuals_go_on<Q, A, U>()
+    ensures stay { ResidualsStay Q A U }
+    ensures known { ResidualsAreKnown Q A U }
 {}
