@@ -6,9 +6,9 @@ use Rattle.sg_query.specs.declared.answer.Answer.{Answer}
 use Rattle.sg_query.specs.declared.query.Query.{Query}
 use Rattle.sg_reading.specs.declared.stop.Stop.{Stop}
 use Rattle.sg_reading.specs.declared.stop.Stop.TheVariants.{OutOfMemory}
-use Rattle.sg_reading.specs.Progress.{Reaches}
+use Rattle.sg_reading.specs.Progress.{HasResidual}
 use Rattle.sg_reading.specs.Stop.{Reads}
-use Rattle.sg_reading.proofs.Progress.{reaches_behind, reaches_here, reaches_on, reaches_reads}
+use Rattle.sg_reading.proofs.Progress.{residual_behind, residual_here, residual_on, residual_reads}
 use Rattle.sg_reading.proofs.Steps.{memory_reads, reading_steps, then_err, then_ok}
 use Rattle.jv_diag.specs.Plain.{DiagOf}
 use Rattle.jv_instance.specs.declared.datum.JavaDatum.{JavaDatum}
@@ -63,19 +63,19 @@ module _ (reply : Query JavaPred → Option (Answer JavaDatum)) where
   -- ---- a rule, and what is left of it
 
   module _ (all : Rule (List DiagOf)) (rest : BegunBody → Rule (List DiagOf)) where
-    pub kept : (o : Option BegunBody) → IfSome o (λ b. Reaches reply all (rest b)) → Reaches reply all (left_of all rest o)
-    kept None h = reaches_here reply all all refl
+    pub kept : (o : Option BegunBody) → IfSome o (λ b. HasResidual reply all (rest b)) → HasResidual reply all (left_of all rest o)
+    kept None h = residual_here reply all all refl
     kept (Some b) h = h
 
-    module _ (o : Option BegunBody) (b : BegunBody) (is : o ≡ Some b) (reached : Reaches reply all (left_of all rest o)) where
-      reached_begun : Reaches reply all (rest b)
-      reached_begun = subst (λ (z : Option BegunBody). Reaches reply all (left_of all rest z)) is reached
+    module _ (o : Option BegunBody) (b : BegunBody) (is : o ≡ Some b) (reached : HasResidual reply all (left_of all rest o)) where
+      reached_begun : HasResidual reply all (rest b)
+      reached_begun = subst (λ (z : Option BegunBody). HasResidual reply all (left_of all rest z)) is reached
 
       pub begun_reads : (x : Result (List DiagOf) (Stop (Query JavaPred))) → Reads reply (rest b) x → Reads reply all x
-      begun_reads x h = reaches_reads reply all (rest b) x reached_begun h
+      begun_reads x h = residual_reads reply all (rest b) x reached_begun h
 
-      pub begun_goes_on : (p : Option BegunBody) → IfSome p (λ c. Reaches reply (rest b) (rest c)) → Reaches reply all (left_of all rest p)
-      begun_goes_on p h = kept p (if_some (λ c. Reaches reply (rest b) (rest c)) (λ c. Reaches reply all (rest c)) p (λ c k. reaches_on reply all (rest b) (rest c) reached_begun k) h)
+      pub begun_goes_on : (p : Option BegunBody) → IfSome p (λ c. HasResidual reply (rest b) (rest c)) → HasResidual reply all (left_of all rest p)
+      begun_goes_on p h = kept p (if_some (λ c. HasResidual reply (rest b) (rest c)) (λ c. HasResidual reply all (rest c)) p (λ c k. residual_on reply all (rest b) (rest c) reached_begun k) h)
 
   module _ (l : LayoutOf) (names : List (List ℕ)) (c : Scope) (extends : List (List Ident)) where
     -- ---- initializers
@@ -99,20 +99,20 @@ module _ (reply : Query JavaPred → Option (Answer JavaDatum)) where
         pub method_case : (r : Result (List DiagOf) (Stop (Query JavaPred))) → Reads reply (statements_left site xs b) r → Reads reply (left b) r
         method_case r h = subst (λ (q : Rule (List DiagOf)). Reads reply q r) (at_site b refl) h
 
-        pub method_goes_on : (o : Option BegunBody) → IfSome o (λ d. (d.result ≡ b.result) × Reaches reply (statements_left site xs b) (statements_left site xs d)) → IfSome o (λ d. Reaches reply (left b) (left d))
+        pub method_goes_on : (o : Option BegunBody) → IfSome o (λ d. (d.result ≡ b.result) × HasResidual reply (statements_left site xs b) (statements_left site xs d)) → IfSome o (λ d. HasResidual reply (left b) (left d))
         method_goes_on o h =
-            if_some (λ d. (d.result ≡ b.result) × Reaches reply (statements_left site xs b) (statements_left site xs d)) (λ d. Reaches reply (left b) (left d)) o
-            (λ d k. subst (λ (q : Rule (List DiagOf)). Reaches reply q (left d)) (at_site b refl) (subst (λ (q : Rule (List DiagOf)). Reaches reply (statements_left site xs b) q) (at_site d k.0) k.1)) h
+            if_some (λ d. (d.result ≡ b.result) × HasResidual reply (statements_left site xs b) (statements_left site xs d)) (λ d. HasResidual reply (left b) (left d)) o
+            (λ d k. subst (λ (q : Rule (List DiagOf)). HasResidual reply q (left d)) (at_site b refl) (subst (λ (q : Rule (List DiagOf)). HasResidual reply (statements_left site xs b) q) (at_site d k.0) k.1)) h
 
       -- from the start, behind the signature
       module _ (ps : List ParamTree) (s : Option SignatureOf) (signed : Reads reply (signature_of l m) (Ok s)) (b : BegunBody) (begun : (ys : StmtTrees) → method_statements_left l names c extends m ys b ≡ body_by l names c extends m ps ys s) where
         pub start_case : (r : Result (List DiagOf) (Stop (Query JavaPred))) → Reads reply (left b) r → Reads reply (statements_rule l names c extends m ps xs) r
         start_case r h = then_ok reply (signature_of l m) (λ s. body_by l names c extends m ps xs s) s r signed (subst (λ (q : Rule (List DiagOf)). Reads reply q r) (begun xs) h)
 
-        pub start_goes_on : (o : Option BegunBody) → IfSome o (λ d. Reaches reply (left b) (left d)) → IfSome o (λ d. Reaches reply (statements_rule l names c extends m ps xs) (left d))
+        pub start_goes_on : (o : Option BegunBody) → IfSome o (λ d. HasResidual reply (left b) (left d)) → IfSome o (λ d. HasResidual reply (statements_rule l names c extends m ps xs) (left d))
         start_goes_on o h =
-            if_some (λ d. Reaches reply (left b) (left d)) (λ d. Reaches reply (statements_rule l names c extends m ps xs) (left d)) o
-            (λ d k. reaches_behind reply (signature_of l m) (λ s. body_by l names c extends m ps xs s) s (left d) signed (subst (λ (q : Rule (List DiagOf)). Reaches reply q (left d)) (begun xs) k)) h
+            if_some (λ d. HasResidual reply (left b) (left d)) (λ d. HasResidual reply (statements_rule l names c extends m ps xs) (left d)) o
+            (λ d k. residual_behind reply (signature_of l m) (λ s. body_by l names c extends m ps xs s) s (left d) signed (subst (λ (q : Rule (List DiagOf)). HasResidual reply q (left d)) (begun xs) k)) h
 
     -- ---- constructors
 
@@ -127,10 +127,10 @@ module _ (reply : Query JavaPred → Option (Answer JavaDatum)) where
         pub ctor_case : (r : Result (List DiagOf) (Stop (Query JavaPred))) → Reads reply (statements_left site d.body b) r → Reads reply (ctor_rest b) r
         ctor_case r h = subst (λ (q : Rule (List DiagOf)). Reads reply q r) (ctor_site b) h
 
-        pub ctor_goes_on : (o : Option BegunBody) → IfSome o (λ a. (a.result ≡ b.result) × Reaches reply (statements_left site d.body b) (statements_left site d.body a)) → IfSome o (λ a. Reaches reply (ctor_rest b) (ctor_rest a))
+        pub ctor_goes_on : (o : Option BegunBody) → IfSome o (λ a. (a.result ≡ b.result) × HasResidual reply (statements_left site d.body b) (statements_left site d.body a)) → IfSome o (λ a. HasResidual reply (ctor_rest b) (ctor_rest a))
         ctor_goes_on o h =
-            if_some (λ a. (a.result ≡ b.result) × Reaches reply (statements_left site d.body b) (statements_left site d.body a)) (λ a. Reaches reply (ctor_rest b) (ctor_rest a)) o
-            (λ a k. subst (λ (q : Rule (List DiagOf)). Reaches reply q (ctor_rest a)) (ctor_site b) (subst (λ (q : Rule (List DiagOf)). Reaches reply (statements_left site d.body b) q) (ctor_site a) k.1)) h
+            if_some (λ a. (a.result ≡ b.result) × HasResidual reply (statements_left site d.body b) (statements_left site d.body a)) (λ a. HasResidual reply (ctor_rest b) (ctor_rest a)) o
+            (λ a k. subst (λ (q : Rule (List DiagOf)). HasResidual reply q (ctor_rest a)) (ctor_site b) (subst (λ (q : Rule (List DiagOf)). HasResidual reply (statements_left site d.body b) q) (ctor_site a) k.1)) h
 
       -- from the start, behind the signature, the parameters and the super call
       module _ (m : Scope) (s : Option SignatureOf) (signed : Reads reply (signature_of l m) (Ok s)) where
@@ -149,12 +149,12 @@ module _ (reply : Query JavaPred → Option (Answer JavaDatum)) where
               then_ok reply (signature_of l m) (λ s. ctor_body l names c extends blanks d s) s r signed
               (then_ok reply (ctor_call l names c extends d s) behind_call (b.locals.items, b.diags) r called (subst (λ (q : Rule (List DiagOf)). Reads reply q r) (sym all_left) h))
 
-          pub ctor_starts_on : (o : Option BegunBody) → IfSome o (λ a. Reaches reply (ctor_rest b) (ctor_rest a)) → IfSome o (λ a. Reaches reply (ctor_rule l names c extends blanks m d) (ctor_rest a))
+          pub ctor_starts_on : (o : Option BegunBody) → IfSome o (λ a. HasResidual reply (ctor_rest b) (ctor_rest a)) → IfSome o (λ a. HasResidual reply (ctor_rule l names c extends blanks m d) (ctor_rest a))
           ctor_starts_on o h =
-              if_some (λ a. Reaches reply (ctor_rest b) (ctor_rest a)) (λ a. Reaches reply (ctor_rule l names c extends blanks m d) (ctor_rest a)) o
+              if_some (λ a. HasResidual reply (ctor_rest b) (ctor_rest a)) (λ a. HasResidual reply (ctor_rule l names c extends blanks m d) (ctor_rest a)) o
               (λ a k.
-              reaches_behind reply (signature_of l m) (λ s. ctor_body l names c extends blanks d s) s (ctor_rest a) signed
-              (reaches_behind reply (ctor_call l names c extends d s) behind_call (b.locals.items, b.diags) (ctor_rest a) called (subst (λ (q : Rule (List DiagOf)). Reaches reply q (ctor_rest a)) (sym all_left) k))) h
+              residual_behind reply (signature_of l m) (λ s. ctor_body l names c extends blanks d s) s (ctor_rest a) signed
+              (residual_behind reply (ctor_call l names c extends d s) behind_call (b.locals.items, b.diags) (ctor_rest a) called (subst (λ (q : Rule (List DiagOf)). HasResidual reply q (ctor_rest a)) (sym all_left) k))) h
 
     -- the super call, behind the parameters
     pub call_case : (d : CtorTree) (s : Option SignatureOf) (x : Result Scoped (Stop (Query JavaPred))) (outer : List Scope) (here : SiteOf) (ts : List Ty) (vs : List Local) (ds : List DiagOf) → outer ≡ instance_bodies l c → ts ≡ param_types s

@@ -3,10 +3,10 @@ use Rattle.std.proofs.Common.{◌≡◌, ℕ, zero, suc, false, ◌+◌, ◌<◌
 use Rattle.sg_query.specs.declared.answer.Answer.{Answer}
 use Rattle.sg_query.specs.declared.query.Query.{Query}
 use Rattle.sg_reading.specs.declared.stop.Stop.{Stop}
-use Rattle.sg_reading.specs.Progress.{Reaches}
+use Rattle.sg_reading.specs.Progress.{HasResidual}
 use Rattle.sg_reading.specs.Reading.{done, and_then}
 use Rattle.sg_reading.specs.Stop.{Reads}
-use Rattle.sg_reading.proofs.Progress.{reaches_behind, reaches_here, reaches_on, reaches_reads}
+use Rattle.sg_reading.proofs.Progress.{residual_behind, residual_here, residual_on, residual_reads}
 use Rattle.sg_reading.proofs.Sequences.{and_then-and_then}
 use Rattle.sg_reading.proofs.Steps.{done_reads, then_err, then_ok}
 use Rattle.jv_diag.specs.Plain.{DiagOf}
@@ -65,11 +65,11 @@ module _ (reply : Query JavaPred → Option (Answer JavaDatum)) (site : SiteOf) 
           ∙ (ap (λ (y : Stmt). statements_checked site (stmts (stmt_tree y) (behind (suc b.count) (stmt_trees xs))) (b.locals.items, b.diags)) is
           ∙ ap (λ (zs : StmtTrees). statements_checked site zs (b.locals.items, b.diags)) (sym (behind_here xs b.count x below))))
 
-      pub left_more : (c : BegunBody) → c.count ≡ b.count + 1 → Reads {U = Scoped} reply (top_checked site (stmt_tree x) (b.locals.items, b.diags)) (Ok (c.locals.items, c.diags)) → Reaches reply (rest b) (rest c)
+      pub left_more : (c : BegunBody) → c.count ≡ b.count + 1 → Reads {U = Scoped} reply (top_checked site (stmt_tree x) (b.locals.items, b.diags)) (Ok (c.locals.items, c.diags)) → HasResidual reply (rest b) (rest c)
       left_more c next g =
-          subst (λ (r : Rule (List DiagOf)). Reaches reply r (rest c)) here
-          (reaches_behind reply (top_checked site (stmt_tree x) (b.locals.items, b.diags)) (λ t. statements_checked site (behind (b.count + 1) (stmt_trees xs)) t) (c.locals.items, c.diags) (rest c) g
-          (reaches_here reply (statements_checked site (behind (b.count + 1) (stmt_trees xs)) (c.locals.items, c.diags)) (rest c) (ap (λ (n : ℕ). statements_checked site (behind n (stmt_trees xs)) (c.locals.items, c.diags)) (sym next))))
+          subst (λ (r : Rule (List DiagOf)). HasResidual reply r (rest c)) here
+          (residual_behind reply (top_checked site (stmt_tree x) (b.locals.items, b.diags)) (λ t. statements_checked site (behind (b.count + 1) (stmt_trees xs)) t) (c.locals.items, c.diags) (rest c) g
+          (residual_here reply (statements_checked site (behind (b.count + 1) (stmt_trees xs)) (c.locals.items, c.diags)) (rest c) (ap (λ (n : ℕ). statements_checked site (behind n (stmt_trees xs)) (c.locals.items, c.diags)) (sym next))))
 
       pub left_stops : (e : Stop (Query JavaPred)) → Reads {U = Scoped} reply (top_checked site (stmt_tree x) (b.locals.items, b.diags)) (Err e) → Reads {U = List DiagOf} reply (rest b) (Err e)
       left_stops e g =
@@ -81,8 +81,8 @@ module _ (reply : Query JavaPred → Option (Answer JavaDatum)) (site : SiteOf) 
         subst (λ (r : Rule (List DiagOf)). Reads reply r (Ok ds)) (ap (λ (zs : StmtTrees). statements_checked site zs (b.locals.items, b.diags)) (sym (behind_end xs b.count past))) (done_reads reply b.diags ds e)
 
     -- where it stands as before
-    pub left_same : (c : BegunBody) → c.count ≡ b.count → c.locals.items ≡ b.locals.items → c.diags ≡ b.diags → Reaches reply (rest b) (rest c)
-    left_same c count locals diags = reaches_here reply (rest b) (rest c) (λ i. statements_checked site (behind (sym count i) (stmt_trees xs)) (sym locals i, sym diags i))
+    pub left_same : (c : BegunBody) → c.count ≡ b.count → c.locals.items ≡ b.locals.items → c.diags ≡ b.diags → HasResidual reply (rest b) (rest c)
+    left_same c count locals diags = residual_here reply (rest b) (rest c) (λ i. statements_checked site (behind (sym count i) (stmt_trees xs)) (sym locals i, sym diags i))
 
 -- a body that was begun
 pub begun_left : (site : SiteOf) (xs : StmtTrees) (given : Option Ty) (s : Scoped) (b : BegunBody) → IsBegun given s b → statements_left site xs b ≡ statements_checked site xs s
@@ -92,6 +92,6 @@ pub ruleset own_steps = (end_steps, top_ok, top_err)
 
 pub ruleset next_steps = (end_steps, adds_cut)
 
-pub ruleset left_steps = (end_steps, reaches_reads, reaches_on, reaches_here, left_more, left_stops, left_ends, left_same)
+pub ruleset left_steps = (end_steps, residual_reads, residual_on, residual_here, left_more, left_stops, left_ends, left_same)
 
 pub ruleset begun_steps = end_steps

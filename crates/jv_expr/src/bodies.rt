@@ -2,7 +2,7 @@
 
 ghost use Rattle.std.specs.Prelude.{◌≡◌, ◌<◌, ◌^◌, ◌∷◌, [], map, Some, None, IfOk, IfSome, OnOk};
 ghost use Rattle.std.specs.Option.{option_map};
-ghost use Rattle.sg_reading.specs.Progress.{Reaches};
+ghost use Rattle.sg_reading.specs.Progress.{HasResidual};
 ghost use Rattle.sg_reading.specs.Stop.{Reads};
 ghost use Rattle.jv_layout.specs.Readers.{file_of};
 ghost use Rattle.jv_tree.specs.DeclTree.{ctor_tree, method_tree, param_tree};
@@ -214,7 +214,7 @@ fn go_on_method(
 ) -> Result<DiagList, Need>
     requires { progress.old.begun ≡ None }
     ensures reads { Reads (reply_to o.now) (method_statements_left l.now n.now ty (map ids_of extends.now) member (stmt_trees ss.now) body) result }
-    ensures left { IfSome progress.new.begun (λ b. Reaches (reply_to o.now) (method_statements_left l.now n.now ty (map ids_of extends.now) member (stmt_trees ss.now) body) (method_statements_left l.now n.now ty (map ids_of extends.now) member (stmt_trees ss.now) b)) }
+    ensures left { IfSome progress.new.begun (λ b. HasResidual (reply_to o.now) (method_statements_left l.now n.now ty (map ids_of extends.now) member (stmt_trees ss.now) body) (method_statements_left l.now n.now ty (map ids_of extends.now) member (stmt_trees ss.now) b)) }
     ensures new { OnOk result (progress.new.begun ≡ None) }
 {
     let spot = Spot::of_body(alloc, l, ty)?;
@@ -248,7 +248,7 @@ fn start_method(
 ) -> Result<DiagList, Need>
     requires { progress.old.begun ≡ None }
     ensures reads { Reads (reply_to o.now) (statements_rule l.now n.now ty (map ids_of extends.now) member (map param_tree params.now) (stmt_trees ss.now)) result }
-    ensures left { IfSome progress.new.begun (λ b. Reaches (reply_to o.now) (statements_rule l.now n.now ty (map ids_of extends.now) member (map param_tree params.now) (stmt_trees ss.now)) (method_statements_left l.now n.now ty (map ids_of extends.now) member (stmt_trees ss.now) b)) }
+    ensures left { IfSome progress.new.begun (λ b. HasResidual (reply_to o.now) (statements_rule l.now n.now ty (map ids_of extends.now) member (map param_tree params.now) (stmt_trees ss.now)) (method_statements_left l.now n.now ty (map ids_of extends.now) member (stmt_trees ss.now) b)) }
     ensures new { OnOk result (progress.new.begun ≡ None) }
 {
     let s = read_signature_of(alloc, l, o, member)?;
@@ -270,9 +270,9 @@ fn read_body(
     ss: &[Stmt],
     progress: &mut BodyProgress,
 ) -> Result<DiagList, Need>
-    requires { Reaches (reply_to o.now) (statements_rule l.now n.now ty (map ids_of extends.now) member (map param_tree params.now) (stmt_trees ss.now)) (left_of (statements_rule l.now n.now ty (map ids_of extends.now) member (map param_tree params.now) (stmt_trees ss.now)) (method_statements_left l.now n.now ty (map ids_of extends.now) member (stmt_trees ss.now)) progress.old.begun) }
+    requires { HasResidual (reply_to o.now) (statements_rule l.now n.now ty (map ids_of extends.now) member (map param_tree params.now) (stmt_trees ss.now)) (left_of (statements_rule l.now n.now ty (map ids_of extends.now) member (map param_tree params.now) (stmt_trees ss.now)) (method_statements_left l.now n.now ty (map ids_of extends.now) member (stmt_trees ss.now)) progress.old.begun) }
     ensures reads { Reads (reply_to o.now) (statements_rule l.now n.now ty (map ids_of extends.now) member (map param_tree params.now) (stmt_trees ss.now)) result }
-    ensures left { Reaches (reply_to o.now) (statements_rule l.now n.now ty (map ids_of extends.now) member (map param_tree params.now) (stmt_trees ss.now)) (left_of (statements_rule l.now n.now ty (map ids_of extends.now) member (map param_tree params.now) (stmt_trees ss.now)) (method_statements_left l.now n.now ty (map ids_of extends.now) member (stmt_trees ss.now)) progress.new.begun) }
+    ensures left { HasResidual (reply_to o.now) (statements_rule l.now n.now ty (map ids_of extends.now) member (map param_tree params.now) (stmt_trees ss.now)) (left_of (statements_rule l.now n.now ty (map ids_of extends.now) member (map param_tree params.now) (stmt_trees ss.now)) (method_statements_left l.now n.now ty (map ids_of extends.now) member (stmt_trees ss.now)) progress.new.begun) }
     ensures new { OnOk result (progress.new.begun ≡ None) }
 {
     match progress.take() {
@@ -296,9 +296,9 @@ pub fn read_method_body(
     method: &Method,
     progress: &mut BodyProgress,
 ) -> Result<DiagList, Need>
-    requires { Reaches (reply_to o.now) (method_rule l.now n.now ty (map ids_of extends.now) member (method_tree method.now)) (method_left l.now n.now ty (map ids_of extends.now) member (method_tree method.now) progress.old) }
+    requires { HasResidual (reply_to o.now) (method_rule l.now n.now ty (map ids_of extends.now) member (method_tree method.now)) (method_left l.now n.now ty (map ids_of extends.now) member (method_tree method.now) progress.old) }
     ensures reads { Reads (reply_to o.now) (method_rule l.now n.now ty (map ids_of extends.now) member (method_tree method.now)) result }
-    ensures left { Reaches (reply_to o.now) (method_rule l.now n.now ty (map ids_of extends.now) member (method_tree method.now)) (method_left l.now n.now ty (map ids_of extends.now) member (method_tree method.now) progress.new) }
+    ensures left { HasResidual (reply_to o.now) (method_rule l.now n.now ty (map ids_of extends.now) member (method_tree method.now)) (method_left l.now n.now ty (map ids_of extends.now) member (method_tree method.now) progress.new) }
     ensures new { OnOk result (progress.new.begun ≡ None) }
 {
     match &method.body {
@@ -390,7 +390,7 @@ fn go_on_ctor(
 ) -> Result<DiagList, Need>
     requires { progress.old.begun ≡ None }
     ensures reads { Reads (reply_to o.now) (ctor_statements_left l.now n.now ty (map ids_of extends.now) blanks.now (ctor_tree ctor.now) body) result }
-    ensures left { IfSome progress.new.begun (λ b. Reaches (reply_to o.now) (ctor_statements_left l.now n.now ty (map ids_of extends.now) blanks.now (ctor_tree ctor.now) body) (ctor_statements_left l.now n.now ty (map ids_of extends.now) blanks.now (ctor_tree ctor.now) b)) }
+    ensures left { IfSome progress.new.begun (λ b. HasResidual (reply_to o.now) (ctor_statements_left l.now n.now ty (map ids_of extends.now) blanks.now (ctor_tree ctor.now) body) (ctor_statements_left l.now n.now ty (map ids_of extends.now) blanks.now (ctor_tree ctor.now) b)) }
     ensures new { OnOk result (progress.new.begun ≡ None) }
 {
     let spot = Spot::of_body(alloc, l, ty)?;
@@ -415,7 +415,7 @@ fn start_ctor(
 ) -> Result<DiagList, Need>
     requires { progress.old.begun ≡ None }
     ensures reads { Reads (reply_to o.now) (ctor_rule l.now n.now ty (map ids_of extends.now) blanks.now member (ctor_tree ctor.now)) result }
-    ensures left { IfSome progress.new.begun (λ b. Reaches (reply_to o.now) (ctor_rule l.now n.now ty (map ids_of extends.now) blanks.now member (ctor_tree ctor.now)) (ctor_statements_left l.now n.now ty (map ids_of extends.now) blanks.now (ctor_tree ctor.now) b)) }
+    ensures left { IfSome progress.new.begun (λ b. HasResidual (reply_to o.now) (ctor_rule l.now n.now ty (map ids_of extends.now) blanks.now member (ctor_tree ctor.now)) (ctor_statements_left l.now n.now ty (map ids_of extends.now) blanks.now (ctor_tree ctor.now) b)) }
     ensures new { OnOk result (progress.new.begun ≡ None) }
 {
     let s = read_signature_of(alloc, l, o, member)?;
@@ -438,9 +438,9 @@ pub fn read_ctor_body(
     ctor: &Ctor,
     progress: &mut BodyProgress,
 ) -> Result<DiagList, Need>
-    requires { Reaches (reply_to o.now) (ctor_rule l.now n.now ty (map ids_of extends.now) blanks.now member (ctor_tree ctor.now)) (ctor_left l.now n.now ty (map ids_of extends.now) blanks.now member (ctor_tree ctor.now) progress.old) }
+    requires { HasResidual (reply_to o.now) (ctor_rule l.now n.now ty (map ids_of extends.now) blanks.now member (ctor_tree ctor.now)) (ctor_left l.now n.now ty (map ids_of extends.now) blanks.now member (ctor_tree ctor.now) progress.old) }
     ensures reads { Reads (reply_to o.now) (ctor_rule l.now n.now ty (map ids_of extends.now) blanks.now member (ctor_tree ctor.now)) result }
-    ensures left { Reaches (reply_to o.now) (ctor_rule l.now n.now ty (map ids_of extends.now) blanks.now member (ctor_tree ctor.now)) (ctor_left l.now n.now ty (map ids_of extends.now) blanks.now member (ctor_tree ctor.now) progress.new) }
+    ensures left { HasResidual (reply_to o.now) (ctor_rule l.now n.now ty (map ids_of extends.now) blanks.now member (ctor_tree ctor.now)) (ctor_left l.now n.now ty (map ids_of extends.now) blanks.now member (ctor_tree ctor.now) progress.new) }
     ensures new { OnOk result (progress.new.begun ≡ None) }
 {
     match progress.take() {

@@ -1,7 +1,7 @@
 //! The statements at the top of a body, one after another, from where the check of the body stopped.
 
 ghost use Rattle.std.specs.Prelude.{◌≡◌, ◌<◌, ◌^◌, None, IfSome, OnOk, OnErr};
-ghost use Rattle.sg_reading.specs.Progress.{Reaches};
+ghost use Rattle.sg_reading.specs.Progress.{HasResidual};
 ghost use Rattle.sg_reading.specs.Stop.{Reads};
 ghost use Rattle.jv_tree.specs.StmtTree.{stmt_tree, stmt_trees};
 ghost use Rattle.jv_names.specs.Replies.{reply_to};
@@ -78,7 +78,7 @@ fn check_left(
 ) -> Result<(), Need>
     requires { site.now.spot.now.file < 2 ^ 31 }
     ensures reads { Reads (reply_to o.now) (statements_left (site_of site.now) (stmt_trees ss.now) body.old) (only_diags result body.new.diags) }
-    ensures left { Reaches (reply_to o.now) (statements_left (site_of site.now) (stmt_trees ss.now) body.old) (statements_left (site_of site.now) (stmt_trees ss.now) body.new) }
+    ensures left { HasResidual (reply_to o.now) (statements_left (site_of site.now) (stmt_trees ss.now) body.old) (statements_left (site_of site.now) (stmt_trees ss.now) body.new) }
     ensures result { body.new.result ≡ body.old.result }
 {
     while body.count < ss.len() {
@@ -102,7 +102,7 @@ pub(crate) fn go_on(
     requires file { site.now.spot.now.file < 2 ^ 31 }
     requires new { progress.old.begun ≡ None }
     ensures reads { Reads (reply_to o.now) (statements_left (site_of site.now) (stmt_trees ss.now) body) result }
-    ensures left { IfSome progress.new.begun (λ b. (b.result ≡ body.result) × Reaches (reply_to o.now) (statements_left (site_of site.now) (stmt_trees ss.now) body) (statements_left (site_of site.now) (stmt_trees ss.now) b)) }
+    ensures left { IfSome progress.new.begun (λ b. (b.result ≡ body.result) × HasResidual (reply_to o.now) (statements_left (site_of site.now) (stmt_trees ss.now) body) (statements_left (site_of site.now) (stmt_trees ss.now) b)) }
     ensures new { OnOk result (progress.new.begun ≡ None) }
 {
     let mut body = body;

@@ -1,8 +1,11 @@
 pub mod Steps
+pub mod Progress
+pub mod RowProgress
 pub mod Adding
 pub mod Bounds
 pub mod Waiting
 pub mod Least
 pub mod Importing
+pub mod ImportsSoFar
 pub mod Programs
 pub mod ImportQueries

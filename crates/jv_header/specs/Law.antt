@@ -20,6 +20,7 @@ use Rattle.jv_tree.specs.DeclTree.{UnitTree}
 use Rattle.jv_names.specs.declared.kinds.TheConstants.{OWNTYPE, SUBPKG}
 use Rattle.jv_names.specs.Kinds.{asked_by}
 use Rattle.jv_names.specs.Law.{ReadsOnlyItsQueries}
+use Rattle.jv_names.specs.Reference.{reference}
 use Rattle.jv_header.specs.Depends.{depends_rule}
 use Rattle.jv_header.specs.Header.{header_rule, header_row}
 use Rattle.jv_header.specs.Imports.{imports_rule}
@@ -31,6 +32,9 @@ HeadersReadOnlyTheirQueries = (l : LayoutOf) (names : List (List ℕ)) (c : Scop
 
 abbrev pub DependencesReadOnlyTheirQueries : Type 0
 DependencesReadOnlyTheirQueries = (l : LayoutOf) (names : List (List ℕ)) (c : Scope) (name : Ident) (row : List Scope) → ReadsOnlyItsQueries (depends_rule l names c name row)
+
+abbrev pub ReferencesReadOnlyTheirQueries : Type 0
+ReferencesReadOnlyTheirQueries = (l : LayoutOf) (file : ℕ) (bodies : List Scope) (ids : List Ident) → ReadsOnlyItsQueries (reference l file bodies ids)
 
 abbrev pub ImportsReadOnlyTheirQueries : Type 0
 ImportsReadOnlyTheirQueries = (l : LayoutOf) (names : List (List ℕ)) (file : ℕ) (u : UnitTree) → ReadsOnlyItsQueries (imports_rule l names file u)

@@ -1,8 +1,11 @@
 pub mod Clashes
 pub mod Circular
 pub mod Declaration
+pub mod RowProgress
 pub mod Depends
 pub mod Header
 pub mod Imports
+pub mod ImportsProgress
 pub mod Bounds
 pub mod Law
+pub mod Progress

@@ -6,7 +6,11 @@ ghost use Rattle.sg_reading.specs.declared.stop.Stop.TheVariants.{NoReply, OutOf
 ghost use Rattle.jv_names.specs.declared.kinds.TheConstants.{SUPERS};
 ghost use Rattle.jv_names.specs.Replies.{reply_to, for_any};
 ghost use Rattle.jv_header.specs.Depends.{with_supertypes, dependence, dependence_diags, depends_rule};
+ghost use Rattle.jv_header.specs.RowProgress.{IsDependenceSoFar, IsRowSoFar};
+ghost use Rattle.jv_header.specs.Progress.{with_found};
 
+use crate::begun_dependence::BegunDependence;
+use crate::dependence_progress::DependenceProgress;
 use jv_diag::DiagList;
 use jv_instance::{JavaDatum, JavaPred};
 use jv_layout::{Layout, text_of};
@@ -48,25 +52,50 @@ fn ask_supertypes(o: &Oracle, ty: Scope) -> Result<&Answer<JavaDatum>, Stop<Quer
     o.ask(for_any(kinds::SUPERS, ty))
 }
 
-/// A type's dependence by its row.
-#[tactic(auto, using(crate::proofs::Steps::header_steps))]
+/// What the types of a row that are left tell of a type's dependence, behind those that were read, or the first query that has no
+/// reply. Where it stops, those before the type at which it stopped stay read.
+#[tactic(auto, using(crate::proofs::RowProgress::row_steps))]
+fn read_row(
+    l: &Layout,
+    o: &Oracle,
+    ty: Scope,
+    row: &[Scope],
+    begun: &mut BegunDependence,
+) -> Result<(), Stop<Query<JavaPred>>>
+    requires so_far { IsRowSoFar (reply_to o.now) l.now ty row.now begun.old }
+    ensures reads { Reads (reply_to o.now) (dependence l.now ty row.now) (with_found result begun.new.found) }
+    ensures so_far { IsRowSoFar (reply_to o.now) l.now ty row.now begun.new }
+{
+    while begun.count < row.len() {
+        let above = row[begun.count];
+        let answer = ask_supertypes(o, above)?;
+        begun.found = with_supertypes(l, ty, begun.found, answer);
+        begun.count += 1;
+    }
+    Ok(())
+}
+
+/// A type's dependence by its row, from where the progress says that it came to. The progress keeps how far it came, whatever the
+/// result.
+#[tactic(auto, using(crate::proofs::RowProgress::row_steps))]
 fn read_dependence(
     l: &Layout,
     o: &Oracle,
     ty: Scope,
     row: &[Scope],
+    progress: &mut DependenceProgress,
 ) -> Result<Dependence, Stop<Query<JavaPred>>>
-    ensures { Reads (reply_to o.now) (dependence l.now ty row.now) result }
+    requires so_far { IsDependenceSoFar (reply_to o.now) l.now ty row.now progress.old }
+    ensures reads { Reads (reply_to o.now) (dependence l.now ty row.now) result }
+    ensures so_far { IsDependenceSoFar (reply_to o.now) l.now ty row.now progress.new }
 {
-    let mut found = Dependence {
-        on_itself: row.contains(&ty),
-        too_many: false,
-    };
-    for above in row {
-        let answer = ask_supertypes(o, *above)?;
-        found = with_supertypes(l, ty, found, answer);
+    let mut begun = progress.begun(ty, row);
+    let end = read_row(l, o, ty, row, &mut begun);
+    progress.keep(begun);
+    match end {
+        Ok(()) => Ok(begun.found),
+        Err(stop) => Err(stop),
     }
-    Ok(found)
 }
 
 /// The diagnostics of a dependence.
@@ -92,7 +121,9 @@ fn dependence_diags(
     Ok(diags)
 }
 
-/// The diagnostics of a type's dependence as far as the replies tell it, or the first query that has no reply.
+/// The diagnostics of a type's dependence as far as the replies tell it, or the first query that has no reply. It goes on with the
+/// first type of the row that was not read so far, and the progress keeps how far it came, whatever the result. All calls with one
+/// progress take the time of the supertypes that they look at, each answer's once, and of the diagnostics.
 #[tactic(auto, using(crate::proofs::Steps::header_steps))]
 pub fn read_depends(
     alloc: Global,
@@ -102,16 +133,19 @@ pub fn read_depends(
     name: Ident,
     ty: Scope,
     row: &[Scope],
+    progress: &mut DependenceProgress,
 ) -> Result<DiagList, Stop<Query<JavaPred>>>
-    ensures { Reads (reply_to o.now) (depends_rule l.now names.now ty name row.now) result }
+    requires so_far { IsDependenceSoFar (reply_to o.now) l.now ty row.now progress.old }
+    ensures reads { Reads (reply_to o.now) (depends_rule l.now names.now ty name row.now) result }
+    ensures so_far { IsDependenceSoFar (reply_to o.now) l.now ty row.now progress.new }
 {
-    let found = read_dependence(l, o, ty, row)?;
+    let found = read_dependence(l, o, ty, row, progress)?;
     dependence_diags(alloc, l, names, ty, name, found)
 }
 
 /// Whether a type depends on itself (JLS 8.1.4, 9.1.3), by its row: its diagnostics stand at its name. It takes the time of the
 /// supertypes that it looks at.
-#[tactic(auto, using(crate::proofs::Steps::header_steps))]
+#[tactic(auto, using(crate::proofs::RowProgress::depends_steps))]
 pub fn resolve_depends(
     alloc: Global,
     l: &Layout,
@@ -123,5 +157,6 @@ pub fn resolve_depends(
 ) -> Result<Known<DiagList, Query<JavaPred>>, AllocError>
     ensures { IfOk result (IsKnown (reply_to o.now) (depends_rule l.now names.now ty name row.now)) }
 {
-    Known::from_found(read_depends(alloc, l, names, o, name, ty, row))
+    let mut progress = DependenceProgress::new();
+    Known::from_found(read_depends(alloc, l, names, o, name, ty, row, &mut progress))
 }

@@ -6,8 +6,10 @@ ghost use Rattle.sg_reading.specs.declared.stop.Stop.TheVariants.{OutOfMemory};
 ghost use Rattle.jv_tree.specs.TypeTree.{ids_of};
 ghost use Rattle.jv_names.specs.Replies.{reply_to};
 ghost use Rattle.jv_header.specs.Header.{one_of, found_types, or_object, supertypes, header_by, header_rule};
+ghost use Rattle.jv_header.specs.Progress.{IsHeaderSoFar};
 
 use crate::clauses::{add_extends, add_interface_clause};
+use crate::header_progress::HeaderProgress;
 use crate::references::read_references;
 use jv_diag::DiagList;
 use jv_instance::JavaPred;
@@ -90,8 +92,11 @@ fn header_by(
     Ok(Header { row, diags })
 }
 
-/// The header of a type as far as the replies tell it, or the first query that has no reply.
-#[tactic(auto, using(crate::proofs::Steps::header_steps))]
+/// The header of a type as far as the replies tell it, or the first query that has no reply. It goes on with the first reference
+/// that was not read so far, and the progress keeps how far it came, whatever the result. All calls with one progress take the time
+/// of the references, each of which starts again alone where a reply is missing, and of the texts; each call takes besides the time
+/// of how deep the type is nested.
+#[tactic(auto, using(crate::proofs::Progress::progress_steps))]
 pub fn read_header(
     alloc: Global,
     l: &Layout,
@@ -99,28 +104,41 @@ pub fn read_header(
     o: &Oracle,
     decl: &TypeDecl,
     ty: Scope,
+    progress: &mut HeaderProgress,
 ) -> Result<Header, Stop<Query<JavaPred>>>
-    ensures { Reads (reply_to o.now) (header_rule l.now names.now ty (map ids_of decl.now.extends.items) (map ids_of decl.now.implements.items)) result }
+    requires so_far { IsHeaderSoFar (reply_to o.now) l.now ty (map ids_of decl.now.extends.items) (map ids_of decl.now.implements.items) progress.old }
+    ensures reads { Reads (reply_to o.now) (header_rule l.now names.now ty (map ids_of decl.now.extends.items) (map ids_of decl.now.implements.items)) result }
+    ensures so_far { IsHeaderSoFar (reply_to o.now) l.now ty (map ids_of decl.now.extends.items) (map ids_of decl.now.implements.items) progress.new }
 {
+    let extends = decl.extends.as_slice();
+    let implements = decl.implements.as_slice();
     let spot = Spot::of_header(alloc, l, ty)?;
-    let extended = read_references(alloc, l, o, ty, &spot, decl.extends.as_slice())?;
-    let implemented = read_references(alloc, l, o, ty, &spot, decl.implements.as_slice())?;
+    read_references(alloc, l, o, ty, &spot, extends, &mut progress.extended)?;
+    read_references(
+        alloc,
+        l,
+        o,
+        ty,
+        &spot,
+        implements,
+        &mut progress.implemented,
+    )?;
     header_by(
         alloc,
         l,
         names,
         ty,
-        decl.extends.as_slice(),
-        decl.implements.as_slice(),
-        extended.as_slice(),
-        implemented.as_slice(),
+        extends,
+        implements,
+        progress.extended.as_slice(),
+        progress.implemented.as_slice(),
     )
 }
 
 /// The header of a type (JLS 8.1.4, 8.1.5, 9.1.3), by its declaration: its supertypes are what its references mean, for a class with
 /// `Object` in place of a missing superclass; each reference has its diagnostics. It takes the time of the ends that its answers
 /// give, and of the texts.
-#[tactic(auto, using(crate::proofs::Steps::header_steps))]
+#[tactic(auto, using(crate::proofs::Progress::progress_steps))]
 pub fn resolve_header(
     alloc: Global,
     l: &Layout,
@@ -131,5 +149,6 @@ pub fn resolve_header(
 ) -> Result<Known<Header, Query<JavaPred>>, AllocError>
     ensures { IfOk result (IsKnown (reply_to o.now) (header_rule l.now names.now ty (map ids_of decl.now.extends.items) (map ids_of decl.now.implements.items))) }
 {
-    Known::from_found(read_header(alloc, l, names, o, decl, ty))
+    let mut progress = HeaderProgress::new(alloc);
+    Known::from_found(read_header(alloc, l, names, o, decl, ty, &mut progress))
 }

@@ -14,9 +14,12 @@ ghost use Rattle.jv_names.specs.Replies.{reply_to};
 ghost use Rattle.jv_names.specs.Written.{start_of, written};
 ghost use Rattle.jv_header.specs.Clashes.{AreBrought, AreNamesOf, is_other};
 ghost use Rattle.jv_header.specs.Imports.{at_import, declares, is_own, import_reference, imports_from, imports_rule, no_imports, with_import, with_meaning, with_single};
+ghost use Rattle.jv_header.specs.ImportsProgress.{AreImportsSoFar};
+ghost use Rattle.jv_header.specs.Progress.{with_found};
 
 use crate::clashes::{bring, is_own, is_taken, last_name, own_names};
 use crate::file_imports::FileImports;
+use crate::imports_progress::ImportsProgress;
 use crate::references::References;
 use jv_diag::DiagList;
 use jv_instance::JavaPred;
@@ -87,24 +90,28 @@ fn read_import_reference(
     })
 }
 
-/// What the imports of a file mean, or the first query that has no reply.
-#[tactic(auto, using(crate::proofs::Steps::header_steps))]
+/// What the imports of a file mean, behind those found so far, or the first query that has no reply. Where it stops, those before
+/// the import at which it stopped stay found.
+#[tactic(auto, using(crate::proofs::ImportsSoFar::import_steps))]
 fn read_import_references(
     alloc: Global,
     l: &Layout,
     o: &Oracle,
     file: u32,
     imports: &[Import],
-) -> Result<References, Stop<Query<JavaPred>>>
-    requires { file < 2 ^ 31 }
-    ensures { Reads (reply_to o.now) (each (import_reference l.now file) (map import_tree imports.now)) result }
+    found: &mut References,
+) -> Result<(), Stop<Query<JavaPred>>>
+    requires few { file < 2 ^ 31 }
+    requires so_far { AreImportsSoFar (reply_to o.now) l.now file (map import_tree imports.now) (record { found = found.old }) }
+    ensures reads { Reads (reply_to o.now) (each (import_reference l.now file) (map import_tree imports.now)) (with_found result found.new) }
+    ensures so_far { AreImportsSoFar (reply_to o.now) l.now file (map import_tree imports.now) (record { found = found.new }) }
 {
-    let mut found = References::empty(alloc);
-    for import in imports {
+    while found.len() < imports.len() {
+        let import = &imports[found.len()];
         let reference = read_import_reference(alloc, l, o, file, import)?;
-        found = found.with(reference)?;
+        found.push(reference)?;
     }
-    Ok(found)
+    Ok(())
 }
 
 // ---- what they give
@@ -368,8 +375,11 @@ fn found_imports(
     Ok(imports_by(alloc, l, names, file, unit, found)?)
 }
 
-/// What the imports of a file give as far as the replies tell it, or the first query that has no reply.
-#[tactic(auto, using(crate::proofs::Steps::header_steps))]
+/// What the imports of a file give as far as the replies tell it, or the first query that has no reply. It goes on with the first
+/// import that was not read so far, and the progress keeps how far it came, whatever the result. All calls with one progress take
+/// the time of the imports, each of which starts again alone where a reply is missing; and where all are read, each call takes that
+/// of the names of the file's top-level types, and of the texts.
+#[tactic(auto, using(crate::proofs::ImportsSoFar::imports_progress_steps))]
 pub fn read_imports(
     alloc: Global,
     l: &Layout,
@@ -377,19 +387,23 @@ pub fn read_imports(
     o: &Oracle,
     file: u32,
     unit: &Unit,
+    progress: &mut ImportsProgress,
 ) -> Result<FileImports, Stop<Query<JavaPred>>>
-    requires { file < 2 ^ 31 }
-    ensures { Reads (reply_to o.now) (imports_rule l.now names.now file (tree_of unit.now)) result }
+    requires few { file < 2 ^ 31 }
+    requires so_far { AreImportsSoFar (reply_to o.now) l.now file (map import_tree unit.now.imports.items) progress.old }
+    ensures reads { Reads (reply_to o.now) (imports_rule l.now names.now file (tree_of unit.now)) result }
+    ensures so_far { AreImportsSoFar (reply_to o.now) l.now file (map import_tree unit.now.imports.items) progress.new }
 {
-    let found = read_import_references(alloc, l, o, file, unit.imports.as_slice())?;
-    found_imports(alloc, l, names, file, unit, found.as_slice())
+    let imports = unit.imports.as_slice();
+    read_import_references(alloc, l, o, file, imports, &mut progress.found)?;
+    found_imports(alloc, l, names, file, unit, progress.found.as_slice())
 }
 
 /// What the imports of a file give (JLS 7.5.1, 7.5.2): each single import brings a type under its name, unless it clashes with
 /// another type of that name in the file or from an earlier import, and each import on demand a type or a package. Diagnostics
 /// stand at the first token of the name. It takes the time of the ends that its answers give, of the names of the file's
 /// top-level types, and of the texts.
-#[tactic(auto, using(crate::proofs::Steps::header_steps))]
+#[tactic(auto, using(crate::proofs::ImportsSoFar::imports_progress_steps))]
 pub fn resolve_imports(
     alloc: Global,
     l: &Layout,
@@ -401,5 +415,6 @@ pub fn resolve_imports(
     requires { file < 2 ^ 31 }
     ensures { IfOk result (IsKnown (reply_to o.now) (imports_rule l.now names.now file (tree_of unit.now))) }
 {
-    Known::from_found(read_imports(alloc, l, names, o, file, unit))
+    let mut progress = ImportsProgress::new(alloc);
+    Known::from_found(read_imports(alloc, l, names, o, file, unit, &mut progress))
 }

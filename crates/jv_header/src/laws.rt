@@ -1,11 +1,16 @@
 //! Laws of headers and imports, each the contract of a function that does nothing.
 
 ghost use Rattle.jv_header.specs.Bounds.{HeadersStayIn, DependenceStaysIn, FileImportsStayIn};
-ghost use Rattle.jv_header.specs.Law.{DependencesReadOnlyTheirQueries, HeadersArePrograms, HeadersAreQuiet, HeadersHaveOneGraph, HeadersHaveOneGreatest, HeadersReadOnlyTheirQueries, ImportsAskForOwn, ImportsReadOnlyTheirQueries};
+ghost use Rattle.jv_header.specs.Law.{DependencesReadOnlyTheirQueries, HeadersArePrograms, HeadersAreQuiet, HeadersHaveOneGraph, HeadersHaveOneGreatest, HeadersReadOnlyTheirQueries, ImportsAskForOwn, ImportsReadOnlyTheirQueries, ReferencesReadOnlyTheirQueries};
 
 /// The header of a type looks at a graph only by the queries that it asks.
 pub fn header_reads_only_its_queries()
     ensures { HeadersReadOnlyTheirQueries }
+{}
+
+/// A reference in a header looks at a graph only by the queries that it asks.
+pub fn references_read_only_their_queries()
+    ensures { ReferencesReadOnlyTheirQueries }
 {}
 
 /// Whether a type depends on itself is looked up in a graph only by the queries that this asks.

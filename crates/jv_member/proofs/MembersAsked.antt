@@ -201,7 +201,7 @@ module _ (l : LayoutOf) (count : ℕ) where
         (each-asked (Asked l count) (group_rule l names c type) (groups_of l ms) (λ g k. group_asks g (All-contains (IsGrouped (IsListed l) l) (groups_of l ms) g (groups_all (IsListed l) l ms [] (All-nil (IsGrouped (IsListed l) l)) h) k)))
         (λ ds. tt)
 
-    inherited_asks : IsTypeScope l c → AllAsked (Asked l count) (inherited_rule l names c type)
+    pub inherited_asks : IsTypeScope l c → AllAsked (Asked l count) (inherited_rule l names c type)
     unfolding inherited_rule
     inherited_asks is =
         and_then-asked_where (Asked l count) (EndsOnly (IsListed l)) (find_ends l Methods (for_any METHODS c)) (all_groups l names c type)
@@ -229,6 +229,13 @@ module _ (l : LayoutOf) (count : ℕ) where
     class_asks true at s h = tt
     class_asks false at s h = call_asks at s h
 
+    -- what a method is declared over
+    pub overrides_ask : (type : Ident) (s : Scope) (m : OwnMember) → IsListed l s → IsNumberedOwn count m → AllAsked (Asked l count) (overrides l names c type s m)
+    overrides_ask type s (own_field ms t v) h k = tt
+    overrides_ask type s (own_method m) h k = cond_asked l count (is_duplicate l s) (done []) (method_rule l names c type s m.name) tt (method_rule_asks names c type s m.name is h k.1)
+    overrides_ask type s (own_ctor m) h k = tt
+    overrides_ask type s (default_ctor name) h k = tt
+
     module _ (extends : List (List Ident)) (numbered : AreNumberedNames count extends) where
       call_at_asks : (at : Option ℕ) → AllAsked (Asked l count) (call_at l names c extends at)
       call_at_asks None = tt
@@ -237,7 +244,7 @@ module _ (l : LayoutOf) (count : ℕ) where
           (and_then-asked_where (Asked l count) (IsTypeScope l) (superclass l c extends) (λ s. call_of l names c at (only_class l s)) (superclass_asks l count c linked is extends numbered) (superclass_found l count c linked is extends numbered)
           (λ s h. class_asks (is_interface_of l s) at s h))
 
-      ctor_rule_asks : (m : OwnMember) → AllAsked (Asked l count) (ctor_rule l names c extends m)
+      pub ctor_rule_asks : (m : OwnMember) → AllAsked (Asked l count) (ctor_rule l names c extends m)
       unfolding ctor_rule
       ctor_rule_asks m = call_at_asks (calls_at m)
 
@@ -246,12 +253,6 @@ module _ (l : LayoutOf) (count : ℕ) where
       -- a member has a scope of the opening, and its identifiers are numbered
       abbrev IsPlacedIn : Placed → Type 0
       IsPlacedIn p = IsListed l p.0 × IsNumberedOwn count p.1
-
-      overrides_ask : (type : Ident) (s : Scope) (m : OwnMember) → IsListed l s → IsNumberedOwn count m → AllAsked (Asked l count) (overrides l names c type s m)
-      overrides_ask type s (own_field ms t v) h k = tt
-      overrides_ask type s (own_method m) h k = cond_asked l count (is_duplicate l s) (done []) (method_rule l names c type s m.name) tt (method_rule_asks names c type s m.name is h k.1)
-      overrides_ask type s (own_ctor m) h k = tt
-      overrides_ask type s (default_ctor name) h k = tt
 
       placed_in : (ss : List Scope) (ms : List OwnMember) → All (IsListed l) ss → All (IsNumberedOwn count) ms → All IsPlacedIn (placed ss ms)
       placed_in [] ms h k = All-nil IsPlacedIn

@@ -29,7 +29,9 @@ mod tests;
 mod whole_methods;
 mod written_types;
 
+pub use constructors::read_ctor_rule;
 pub use declaring::member_diags;
+pub use inherited::read_inherited_rule;
 pub use member_decl::{MemberDecl, own_members};
-pub use members::{check_members, read_members};
+pub use members::{check_members, read_members, read_overrides};
 pub use signature::{Signature, read_signature, resolve_signature};

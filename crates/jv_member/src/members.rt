@@ -8,7 +8,7 @@ ghost use Rattle.jv_tree.specs.DeclTree.{type_decl_tree};
 ghost use Rattle.jv_tree.specs.TypeTree.{ids_of};
 ghost use Rattle.jv_names.specs.Replies.{reply_to};
 ghost use Rattle.jv_member.specs.Declaration.{joined, member_diags};
-ghost use Rattle.jv_member.specs.Members.{declarations_of, member_overrides, member_calls, check_by, members_rule};
+ghost use Rattle.jv_member.specs.Members.{declarations_of, overrides, member_overrides, member_calls, check_by, members_rule};
 ghost use Rattle.jv_member.specs.MemberDecls.{own_of};
 ghost use Rattle.jv_member.specs.Placed.{placed_of};
 
@@ -75,9 +75,36 @@ fn placed_diags(
     Ok(all)
 }
 
-/// The diagnostics of a method that is no duplicate against what it is declared over.
+/// The diagnostics of a method that is no duplicate against what it is declared over (JLS 8.4.8, 9.4.1), as far as the replies tell
+/// them, or the first query that has no reply. Other members have none. It takes the time of the answers.
 #[tactic(auto, using(crate::proofs::MemberSteps::member_steps))]
-fn read_overrides(
+pub fn read_overrides(
+    alloc: Global,
+    l: &Layout,
+    declarations: &Declarations,
+    names: &Names,
+    o: &Oracle,
+    ty: Scope,
+    type_name: Ident,
+    scope: Scope,
+    member: &MemberDecl,
+) -> Result<DiagList, Stop<Query<JavaPred>>>
+    requires { declarations.now ≡ l.now }
+    ensures { Reads (reply_to o.now) (overrides l.now names.now ty type_name scope (own_of member.now)) result }
+{
+    match member {
+        MemberDecl::Method(method) => {
+            if declarations.is_duplicate(l, scope) {
+                return Ok(DiagList::empty(alloc));
+            }
+            read_method_rule(alloc, l, names, o, ty, type_name, scope, method.name)
+        }
+        _ => Ok(DiagList::empty(alloc)),
+    }
+}
+
+/// The same of a member with its scope.
+fn read_placed_overrides(
     alloc: Global,
     l: &Layout,
     declarations: &Declarations,
@@ -90,15 +117,17 @@ fn read_overrides(
     requires { declarations.now ≡ l.now }
     ensures { Reads (reply_to o.now) (member_overrides l.now names.now ty type_name (placed_of placed.now)) result }
 {
-    match placed.member {
-        MemberDecl::Method(method) => {
-            if declarations.is_duplicate(l, placed.scope) {
-                return Ok(DiagList::empty(alloc));
-            }
-            read_method_rule(alloc, l, names, o, ty, type_name, placed.scope, method.name)
-        }
-        _ => Ok(DiagList::empty(alloc)),
-    }
+    read_overrides(
+        alloc,
+        l,
+        declarations,
+        names,
+        o,
+        ty,
+        type_name,
+        placed.scope,
+        &placed.member,
+    )
 }
 
 /// The diagnostics of each member against what it is declared over.
@@ -118,7 +147,7 @@ fn read_each_overrides(
 {
     let mut found = DiagLists::empty(alloc);
     for member in placed {
-        let diags = read_overrides(alloc, l, declarations, names, o, ty, type_name, member)?;
+        let diags = read_placed_overrides(alloc, l, declarations, names, o, ty, type_name, member)?;
         found = found.with(diags)?;
     }
     Ok(found)

@@ -1,5 +1,9 @@
-pub mod BodyRules
+pub mod CheckPlaces
+pub mod CheckRules
+pub mod FileRules
 pub mod Folders
+pub mod HeadRules
+pub mod HeaderRules
 pub mod MemberBodies
 pub mod MemberPlaces
 pub mod NewUnits

@@ -13,12 +13,12 @@ use Rattle.jv_instance.specs.declared.pred.JavaPred.{JavaPred}
 use Rattle.jv_instance.specs.declared.pred.JavaPred.TheVariants.{Named, Any}
 use Rattle.jv_names.specs.Replies.{is_pred, is_query, reply_to}
 use Rattle.jv_names.proofs.Asking.{same_query as by_parts}
-use Rattle.jv_unit.specs.declared.begun_bodies.BegunBodies.{BegunBodies}
+use Rattle.jv_unit.specs.declared.begun_type.BegunType.{BegunType}
 use Rattle.jv_unit.specs.Folder.{FolderOf}
 use Rattle.jv_unit.specs.Progress.{IsSoFar}
 use Rattle.jv_unit.specs.Script.{ScriptOf}
 use Rattle.jv_unit.specs.Scripts.{PutsReply}
-use Rattle.jv_unit.proofs.BodyRules.{so_far_added}
+use Rattle.jv_unit.proofs.CheckRules.{so_far_added}
 
 -- ---- the test of queries decides which are equal
 
@@ -87,7 +87,7 @@ module _ {E : Type 0} (s : ScriptOf) (q copy : Query JavaPred) (a : Answer JavaD
       (λ e. subst (λ (rs : List (Query JavaPred × Answer JavaDatum)). AddsReply (reply_to s.replies) (reply_to rs) q a) (sym (behind e)) (last_replies_are_added is_query query_decides s.replies q a none)) last
 
 -- as far as a unit came, it has come with a reply more, or with the same replies
-pub so_far_put : {E : Type 0} (old new : List (Query JavaPred × Answer JavaDatum)) (q : Query JavaPred) (a : Answer JavaDatum) (w : FolderOf) (t : ℕ) (o : Option BegunBodies) (r : Result (Unit {0}) E)
+pub so_far_put : {E : Type 0} (old new : List (Query JavaPred × Answer JavaDatum)) (q : Query JavaPred) (a : Answer JavaDatum) (w : FolderOf) (t : ℕ) (o : Option BegunType) (r : Result (Unit {0}) E)
     → IfOk r (λ x. AddsReply (reply_to old) (reply_to new) q a) → OnErr r (new ≡ old) → IsSoFar (reply_to old) w t o → IsSoFar (reply_to new) w t o
 so_far_put old new q a w t o (Ok x) adds same h = so_far_added (reply_to old) (reply_to new) q a w t o adds h
 so_far_put old new q a w t o (Err e) adds same h = subst (λ (rs : List (Query JavaPred × Answer JavaDatum)). IsSoFar (reply_to rs) w t o) (sym same) h

@@ -48,16 +48,17 @@ use Rattle.jv_header.proofs.Bounds.{header_rule_stays, header_row_stays, depends
 use Rattle.jv_header.proofs.Programs.{start_is_listed}
 use Rattle.jv_member.specs.declared.signature.Signature.{Signature}
 use Rattle.jv_member.specs.Bounds.{IsNumberedOwn, IsSignatureIn}
-use Rattle.jv_member.specs.Members.{members_rule}
 use Rattle.jv_member.proofs.Bounds.{signatures_stay_in}
-use Rattle.jv_member.proofs.MembersAsked.{members_ask_in_layout}
+use Rattle.jv_member.proofs.MembersAsked.{ctor_rule_asks, inherited_asks, overrides_ask}
 use Rattle.jv_tree.specs.DeclTree.{TypeDeclTree}
 use Rattle.jv_tree.specs.Numbered.{IsNumberedDecl}
+use Rattle.jv_unit.specs.Checks.{Check, declaration, overriding, meeting, calling, body, checks_of}
 use Rattle.jv_unit.specs.Folder.{FolderOf, IsFolderOf, java_preds}
 use Rattle.jv_unit.specs.Owns.{own_at}
-use Rattle.jv_unit.specs.Plans.{class_of, member_part, member_signature, signature_datum, signature_stage, type_part, with_checks, with_members, with_parts, java_plan, file_rows, file_edges, file_stage, file_stages, file_ending, type_row, type_stage, type_stages, type_ending, behind_header, beyond_prelude, own_file_ending, own_type_ending, whole_ending}
-use Rattle.jv_unit.specs.MemberBodies.{all_bodies, member_body, own_body, type_blanks, with_bodies}
+use Rattle.jv_unit.specs.Plans.{all_checks, calling_rule, check_rule, class_of, declaration_part, head_ending, meeting_rule, member_signature, overriding_rule, signature_datum, signature_stage, type_part, with_checks, java_plan, file_rows, file_edges, file_stage, file_stages, file_ending, type_row, type_stage, type_stages, type_ending, behind_header, beyond_prelude, own_file_ending, own_type_ending}
+use Rattle.jv_unit.specs.MemberBodies.{member_body, own_body, type_blanks}
 use Rattle.jv_unit.specs.Trees.{decl_at, unit_at, name_of, extends_of, implements_of}
+use Rattle.jv_unit.proofs.CheckPlaces.{IsCheckOf, checks_are}
 use Rattle.jv_unit.proofs.Numbers.{decl_numbered, members_are_owns, owns_numbered, imports_numbered, extends_numbered, implements_numbered}
 use Rattle.jv_unit.proofs.Trees.{types_of_decls}
 
@@ -236,20 +237,7 @@ module _ (w : FolderOf) (h : IsFolderOf w) where
         then_stays w.layout (length w.names) (λ (s : Signature). IsSignatureIn w.layout s.datum) (λ (d : JavaDatum). Unit {0}) (member_signature w t m) (λ s. done s.datum) (signature_stays m below)
         (λ s k. done_stays w.layout (length w.names) (λ (d : JavaDatum). Unit {0}) s.datum tt)
 
-    part_stays : (m : ℕ) → m < length w.layout.members → StaysIn w.layout (length w.names) (λ (ds : List DiagOf). Unit {0}) (member_part w t m)
-    part_stays m below =
-        then_stays w.layout (length w.names) (λ (s : Signature). IsSignatureIn w.layout s.datum) (λ (ds : List DiagOf). Unit {0}) (member_signature w t m)
-        (λ s. done s.diags) (signature_stays m below)
-        (λ s k. done_stays w.layout (length w.names) (λ (ds : List DiagOf). Unit {0}) s.diags tt)
-
-    parts_stay : (ds : List DiagOf) (ms : List ℕ) → ((m : ℕ) → Contains ms m → m < length w.layout.members) → StaysIn w.layout (length w.names) (λ (ds : List DiagOf). Unit {0}) (with_parts w t ds ms)
-    unfolding with_parts
-    parts_stay ds [] below = done_stays w.layout (length w.names) (λ (ds : List DiagOf). Unit {0}) ds tt
-    parts_stay ds (m ∷ ms) below =
-        then_stays w.layout (length w.names) (λ (ds : List DiagOf). Unit {0}) (λ (ds : List DiagOf). Unit {0}) (member_part w t m) (λ p. with_parts w t (ds ++ p) ms) (part_stays m (below m (Contains-head m ms)))
-        (λ p k. parts_stay (ds ++ p) ms (λ n c. below n (Contains-tail m n ms c)))
-
-    -- ---- bodies
+    -- ---- checks
 
     members_are : members_of w.layout c ≡ map (member_scope w.layout) (members_of_type w.layout t)
     members_are = ap (members_at w.layout) ((scopes_have_places w.layout c (Ty t)).1 (within, refl))
@@ -266,17 +254,30 @@ module _ (w : FolderOf) (h : IsFolderOf w) where
     own_asks blanks s (default_ctor name) k n = tt
 
     module _ (u : ℕ) (is : u ≡ length w.layout.files + t) where
-      body_asks : (blanks : List Scope) (m : ℕ) → Contains (members_of_type w.layout t) m → AllAsked (IsQuery (java_plan w u)) (member_body w t blanks m)
-      body_asks blanks m k =
-          AllAsked-more (IsLayoutQuery w.layout (length w.names)) (IsQuery (java_plan w u)) (member_body w t blanks m) (layout_query_in u)
-          (own_asks blanks (member_scope w.layout m) (own_at w.files m) (member_listed m k) (own_numbered m (member_below w.layout t m k)))
+      in_plan : (r : Rule (List DiagOf)) → AllAsked (IsLayoutQuery w.layout (length w.names)) r → AllAsked (IsQuery (java_plan w u)) r
+      in_plan r k = AllAsked-more (IsLayoutQuery w.layout (length w.names)) (IsQuery (java_plan w u)) r (layout_query_in u) k
 
-      bodies_ask : (blanks : List Scope) (ds : List DiagOf) (ms : List ℕ) → ((m : ℕ) → Contains ms m → Contains (members_of_type w.layout t) m) → AllAsked (IsQuery (java_plan w u)) (with_bodies w t blanks ds ms)
-      unfolding with_bodies
-      bodies_ask blanks ds [] k = tt
-      bodies_ask blanks ds (m ∷ ms) k =
-          and_then-asked (IsQuery (java_plan w u)) (member_body w t blanks m) (λ p. with_bodies w t blanks (ds ++ p) ms) (body_asks blanks m (k m (Contains-head m ms)))
-          (λ p. bodies_ask blanks (ds ++ p) ms (λ n x. k n (Contains-tail m n ms x)))
+      check_asks : (blanks : List Scope) (x : Check) → IsCheckOf (members_of_type w.layout t) x → AllAsked (IsQuery (java_plan w u)) (check_rule w t blanks x)
+      unfolding check_rule
+      check_asks blanks (declaration m) k =
+          and_then-asked (IsQuery (java_plan w u)) (member_signature w t m) (λ s. done (s.diags ++ declaration_part w t m))
+          (asks_in u (λ (s : Signature). IsSignatureIn w.layout s.datum) (member_signature w t m) (signature_stays m (member_below w.layout t m k)))
+          (λ s. tt)
+      check_asks blanks (overriding m) k =
+          in_plan (overriding_rule w t m)
+          (overrides_ask w.layout (length w.names) w.names c h.linked is_type (name_of decl) (member_scope w.layout m) (own_at w.files m) (member_listed m k) (own_numbered m (member_below w.layout t m k)))
+      check_asks blanks meeting k = in_plan (meeting_rule w t) (inherited_asks w.layout (length w.names) w.names c (name_of decl) is_type)
+      check_asks blanks (calling m) k =
+          in_plan (calling_rule w t m)
+          (ctor_rule_asks w.layout (length w.names) w.names c h.linked is_type (extends_of decl) (extends_numbered (length w.names) decl numbered) (own_at w.files m))
+      check_asks blanks (body m) k = in_plan (member_body w t blanks m) (own_asks blanks (member_scope w.layout m) (own_at w.files m) (member_listed m k) (own_numbered m (member_below w.layout t m k)))
+
+      checks_ask : (blanks : List Scope) (ds : List DiagOf) (xs : List Check) → ((x : Check) → Contains xs x → IsCheckOf (members_of_type w.layout t) x) → AllAsked (IsQuery (java_plan w u)) (with_checks w t blanks ds xs)
+      unfolding with_checks
+      checks_ask blanks ds [] k = tt
+      checks_ask blanks ds (x ∷ xs) k =
+          and_then-asked (IsQuery (java_plan w u)) (check_rule w t blanks x) (λ p. with_checks w t blanks (ds ++ p) xs) (check_asks blanks x (k x (Contains-head x xs)))
+          (λ p. checks_ask blanks (ds ++ p) xs (λ y z. k y (Contains-tail x y xs z)))
 
       type_row_held : HoldsRow (opened_of (skeleton_of w.layout)) u c EXT
       type_row_held =
@@ -303,34 +304,23 @@ module _ (w : FolderOf) (h : IsFolderOf w) where
           data_are_stages (List DiagOf) JavaDatum JavaPred (java_plan w u) (signature_of_member w.layout m) (signature_datum w t m) (datum_held m below (member_owned w.layout t m c))
           (asks_in u (λ (d : JavaDatum). Unit {0}) (signature_datum w t m) (datum_stays m below))
 
-      -- all that is checked of members asks from the layout
-      checks_ask : AllAsked (IsQuery (java_plan w u)) (members_rule w.layout w.names c decl)
-      checks_ask = AllAsked-more (IsLayoutQuery w.layout (length w.names)) (IsQuery (java_plan w u)) (members_rule w.layout w.names c decl) (layout_query_in u) (members_ask_in_layout w.layout (length w.names) w.names c decl h.linked is_type numbered)
-
-      with_members_asks : (ds : List DiagOf) → AllAsked (IsQuery (java_plan w u)) (with_members w t ds)
-      with_members_asks ds =
-          let parts = with_parts w t ds (members_of_type w.layout t) in
-          and_then-asked (IsQuery (java_plan w u)) parts (with_checks w t)
-          (asks_in u (λ (ds : List DiagOf). Unit {0}) parts (parts_stay ds (members_of_type w.layout t) (λ m k. member_below w.layout t m k)))
-          (λ p. and_then-asked (IsQuery (java_plan w u)) (members_rule w.layout w.names c decl) (λ ms. done (p ++ ms)) checks_ask (λ ms. tt))
-
       behind_asks : (x : Header) → AreTypes w.layout x.row → AllAsked (IsQuery (java_plan w u)) (behind_header w t x)
       behind_asks x are =
           let rule = depends_rule w.layout w.names c (name_of decl) x.row in
-          and_then-asked (IsQuery (java_plan w u)) rule (λ ds. with_members w t (type_part w t x ds))
+          and_then-asked (IsQuery (java_plan w u)) rule (λ ds. done (type_part w t x ds))
           (asks_in u (λ (ds : List DiagOf). Unit {0}) rule (depends_rule_stays w.layout (length w.names) w.names c (name_of decl) x.row are))
-          (λ ds. with_members_asks (type_part w t x ds))
+          (λ ds. tt)
 
-      pub type_ending_asks : AllAsked (IsQuery (java_plan w u)) (type_ending w t)
-      type_ending_asks =
+      head_ending_asks : AllAsked (IsQuery (java_plan w u)) (head_ending w t)
+      head_ending_asks =
           let rule = header_rule w.layout w.names c (extends_of decl) (implements_of decl) in
           and_then-asked_where (IsQuery (java_plan w u)) (λ (x : Header). AreTypes w.layout x.row) rule (behind_header w t)
           (asks_in u (λ (x : Header). AreTypes w.layout x.row) rule header_stays) header_stays.ends behind_asks
 
-      pub whole_ending_asks : AllAsked (IsQuery (java_plan w u)) (whole_ending w t)
-      whole_ending_asks =
-          and_then-asked (IsQuery (java_plan w u)) (type_ending w t) (all_bodies w t) type_ending_asks
-          (λ ds. bodies_ask (type_blanks w t) ds (members_of_type w.layout t) (λ m k. k))
+      pub type_ending_asks : AllAsked (IsQuery (java_plan w u)) (type_ending w t)
+      type_ending_asks =
+          and_then-asked (IsQuery (java_plan w u)) (head_ending w t) (all_checks w t) head_ending_asks
+          (λ ds. checks_ask (type_blanks w t) ds (checks_of (members_of_type w.layout t)) (checks_are (members_of_type w.layout t)))
 
   -- ---- units
 
@@ -389,7 +379,7 @@ module _ (w : FolderOf) (h : IsFolderOf w) where
     ending_asks false e =
         let not_below = not_lt e in
         let t = u - length w.layout.files in
-        beyond_asks (file_of w.layout (type_scope w.layout t)) (whole_ending w t) (whole_ending_asks t (omega (arith, not_below, within)) u (omega (arith, not_below)))
+        beyond_asks (file_of w.layout (type_scope w.layout t)) (type_ending w t) (type_ending_asks t (omega (arith, not_below, within)) u (omega (arith, not_below)))
 
     pub units_are_sound : IsSound (java_plan w u)
     units_are_sound = record {

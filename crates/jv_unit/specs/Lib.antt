@@ -1,3 +1,4 @@
+pub mod Checks
 pub mod Folder
 pub mod Kept
 pub mod MemberBodies

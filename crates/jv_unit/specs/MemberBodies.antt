@@ -1,8 +1,8 @@
 -- What is checked of the bodies and the initializers of a type's members.
-use Rattle.std.specs.Prelude.{ℕ, ◌&&◌, not, Bool, false, List, [], ◌∷◌, ◌++◌, map, is_some}
+use Rattle.std.specs.Prelude.{ℕ, ◌&&◌, not, Bool, false, List, [], map, is_some}
 use Rattle.std.specs.List.{filter}
 use Rattle.sg_base.specs.declared.scope.Scope.{Scope}
-use Rattle.sg_reading.specs.Reading.{done, and_then}
+use Rattle.sg_reading.specs.Reading.{done}
 use Rattle.jv_diag.specs.Plain.{DiagOf}
 use Rattle.jv_expr.specs.Bodies.{ctor_rule, field_rule, method_rule}
 use Rattle.jv_layout.specs.Folder.{LayoutOf}
@@ -40,12 +40,3 @@ own_body l names c extends blanks s (default_ctor name) = done []
 abbrev pub member_body : FolderOf → ℕ → List Scope → ℕ → Rule (List DiagOf)
 member_body w t blanks m =
     own_body w.layout w.names (type_scope w.layout t) (extends_of (decl_at w.files t)) blanks (member_scope w.layout m) (own_at w.files m)
-
--- the diagnostics of the bodies of some members behind those so far
-unfoldable pub with_bodies : FolderOf → ℕ → List Scope → List DiagOf → List ℕ → Rule (List DiagOf)
-with_bodies w t blanks ds [] = done ds
-with_bodies w t blanks ds (m ∷ ms) = and_then (member_body w t blanks m) (λ p. with_bodies w t blanks (ds ++ p) ms)
-
--- and of all members of a type
-abbrev pub all_bodies : FolderOf → ℕ → List DiagOf → Rule (List DiagOf)
-all_bodies w t ds = with_bodies w t (type_blanks w t) ds (members_of_type w.layout t)

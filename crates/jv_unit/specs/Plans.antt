@@ -11,7 +11,7 @@ use Rattle.jv_instance.specs.declared.pred.JavaPred.{JavaPred}
 use Rattle.jv_instance.specs.declared.labels.TheConstants.{SIMP, ODI, EXT}
 use Rattle.jv_layout.specs.Folder.{LayoutOf}
 use Rattle.jv_layout.specs.Readers.{file_of, members_of_type}
-use Rattle.jv_layout.specs.Scopes.{file_scope, signature_of_member, type_scope}
+use Rattle.jv_layout.specs.Scopes.{file_scope, member_scope, signature_of_member, type_scope}
 use Rattle.jv_layout.specs.Skeleton.{skeleton_of}
 use Rattle.jv_names.specs.Replies.{Rule}
 use Rattle.jv_header.specs.declared.header.Header.{Header}
@@ -20,11 +20,15 @@ use Rattle.jv_header.specs.Depends.{depends_rule}
 use Rattle.jv_header.specs.Header.{header_rule, header_row}
 use Rattle.jv_header.specs.Imports.{imports_rule, import_edges}
 use Rattle.jv_member.specs.declared.signature.Signature.{Signature}
-use Rattle.jv_member.specs.Members.{members_rule}
+use Rattle.jv_member.specs.Constructors.{ctor_rule}
+use Rattle.jv_member.specs.Declaration.{member_diags}
+use Rattle.jv_member.specs.Members.{overrides}
+use Rattle.jv_member.specs.Overriding.{inherited_rule}
 use Rattle.jv_member.specs.Signatures.{signature_rule}
 use Rattle.jv_tree.specs.declared.names.NameId.{NameId}
+use Rattle.jv_unit.specs.Checks.{Check, declaration, overriding, meeting, calling, body, checks_of}
 use Rattle.jv_unit.specs.Folder.{FolderOf, java_preds}
-use Rattle.jv_unit.specs.MemberBodies.{all_bodies}
+use Rattle.jv_unit.specs.MemberBodies.{member_body, type_blanks}
 use Rattle.jv_unit.specs.Owns.{own_at}
 use Rattle.jv_unit.specs.Trees.{decl_at, unit_at, name_of, mods_of, extends_of, implements_of}
 
@@ -76,22 +80,44 @@ signature_datum w t m = and_then (member_signature w t m) (λ s. done s.datum)
 abbrev pub signature_stage : FolderOf → ℕ → ℕ → Stage JavaDatum JavaPred
 signature_stage w t m = datum_stage (signature_of_member w.layout m) (signature_datum w t m)
 
--- the diagnostics of the types in a member's signature
-abbrev pub member_part : FolderOf → ℕ → ℕ → Rule (List DiagOf)
-member_part w t m = and_then (member_signature w t m) (λ s. done s.diags)
+-- ---- what is checked of a type
 
--- the diagnostics of some members behind those so far
-unfoldable pub with_parts : FolderOf → ℕ → List DiagOf → List ℕ → Rule (List DiagOf)
-with_parts w t ds [] = done ds
-with_parts w t ds (m ∷ ms) = and_then (member_part w t m) (λ p. with_parts w t (ds ++ p) ms)
+-- the diagnostics of the declaration of a member itself
+abbrev pub declaration_part : FolderOf → ℕ → ℕ → List DiagOf
+declaration_part w t m = member_diags w.layout w.names (type_scope w.layout t) (class_of w t) (member_scope w.layout m) (own_at w.files m)
 
--- what is checked of all members of a type, behind the diagnostics so far
-abbrev pub with_checks : FolderOf → ℕ → List DiagOf → Rule (List DiagOf)
-with_checks w t ds = and_then (members_rule w.layout w.names (type_scope w.layout t) (decl_at w.files t)) (λ ms. done (ds ++ ms))
+-- those of the types in its signature, and of the declaration
+abbrev pub declaration_rule : FolderOf → ℕ → ℕ → Rule (List DiagOf)
+declaration_rule w t m = and_then (member_signature w t m) (λ s. done (s.diags ++ declaration_part w t m))
 
--- the diagnostics of the members of a type behind those so far: of the types in their signatures, and of all that is checked of them
-abbrev pub with_members : FolderOf → ℕ → List DiagOf → Rule (List DiagOf)
-with_members w t ds = and_then (with_parts w t ds (members_of_type w.layout t)) (with_checks w t)
+-- those of a method against what it is declared over
+abbrev pub overriding_rule : FolderOf → ℕ → ℕ → Rule (List DiagOf)
+overriding_rule w t m = overrides w.layout w.names (type_scope w.layout t) (name_of (decl_at w.files t)) (member_scope w.layout m) (own_at w.files m)
+
+-- those of the methods that meet in the type
+abbrev pub meeting_rule : FolderOf → ℕ → Rule (List DiagOf)
+meeting_rule w t = inherited_rule w.layout w.names (type_scope w.layout t) (name_of (decl_at w.files t))
+
+-- those of the constructor that a constructor calls without a super call
+abbrev pub calling_rule : FolderOf → ℕ → ℕ → Rule (List DiagOf)
+calling_rule w t m = ctor_rule w.layout w.names (type_scope w.layout t) (extends_of (decl_at w.files t)) (own_at w.files m)
+
+-- the diagnostics of a check of a type with these blank fields
+unfoldable pub check_rule : FolderOf → ℕ → List Scope → Check → Rule (List DiagOf)
+check_rule w t blanks (declaration m) = declaration_rule w t m
+check_rule w t blanks (overriding m) = overriding_rule w t m
+check_rule w t blanks meeting = meeting_rule w t
+check_rule w t blanks (calling m) = calling_rule w t m
+check_rule w t blanks (body m) = member_body w t blanks m
+
+-- of some checks, behind the diagnostics so far
+unfoldable pub with_checks : FolderOf → ℕ → List Scope → List DiagOf → List Check → Rule (List DiagOf)
+with_checks w t blanks ds [] = done ds
+with_checks w t blanks ds (c ∷ cs) = and_then (check_rule w t blanks c) (λ p. with_checks w t blanks (ds ++ p) cs)
+
+-- and of all checks of a type
+abbrev pub all_checks : FolderOf → ℕ → List DiagOf → Rule (List DiagOf)
+all_checks w t ds = with_checks w t (type_blanks w t) ds (checks_of (members_of_type w.layout t))
 
 -- ---- the diagnostics of a type
 
@@ -99,17 +125,25 @@ with_members w t ds = and_then (with_parts w t ds (members_of_type w.layout t)) 
 abbrev pub type_part : FolderOf → ℕ → Header → List DiagOf → List DiagOf
 type_part w t h ds = (h.diags ++ ds) ++ declared_diags w.layout w.names (type_scope w.layout t) (name_of (decl_at w.files t)) (mods_of (decl_at w.files t))
 
--- the diagnostics of a type whose header is known: of its header, of its dependence on itself, of its declaration, and of its members
+-- the header of a type
+abbrev pub type_header : FolderOf → ℕ → Rule Header
+type_header w t = header_rule w.layout w.names (type_scope w.layout t) (extends_of (decl_at w.files t)) (implements_of (decl_at w.files t))
+
+-- the diagnostics of its dependence on itself, by its row
+abbrev pub type_dependence : FolderOf → ℕ → List Scope → Rule (List DiagOf)
+type_dependence w t row = depends_rule w.layout w.names (type_scope w.layout t) (name_of (decl_at w.files t)) row
+
+-- the diagnostics of a type itself, whose header is known: of that, of its dependence on itself, and of its declaration
 abbrev pub behind_header : FolderOf → ℕ → Header → Rule (List DiagOf)
-behind_header w t h = and_then (depends_rule w.layout w.names (type_scope w.layout t) (name_of (decl_at w.files t)) h.row) (λ ds. with_members w t (type_part w t h ds))
+behind_header w t h = and_then (type_dependence w t h.row) (λ ds. done (type_part w t h ds))
 
--- the diagnostics of a type but for those of its bodies
+-- the diagnostics of a type itself
+abbrev pub head_ending : FolderOf → ℕ → Rule (List DiagOf)
+head_ending w t = and_then (type_header w t) (behind_header w t)
+
+-- the diagnostics of a type: of itself, and of all that is checked of its members
 abbrev pub type_ending : FolderOf → ℕ → Rule (List DiagOf)
-type_ending w t = and_then (header_rule w.layout w.names (type_scope w.layout t) (extends_of (decl_at w.files t)) (implements_of (decl_at w.files t))) (behind_header w t)
-
--- the diagnostics of a type: of what it declares, and of the bodies of its members
-abbrev pub whole_ending : FolderOf → ℕ → Rule (List DiagOf)
-whole_ending w t = and_then (type_ending w t) (all_bodies w t)
+type_ending w t = and_then (head_ending w t) (all_checks w t)
 
 -- the first stage of a type: its supertypes
 abbrev pub type_stage : FolderOf → ℕ → Stage JavaDatum JavaPred
@@ -133,7 +167,7 @@ abbrev pub own_file_ending : FolderOf → ℕ → Rule (List DiagOf)
 own_file_ending w f = beyond_prelude f (file_ending w f)
 
 abbrev pub own_type_ending : FolderOf → ℕ → Rule (List DiagOf)
-own_type_ending w t = beyond_prelude (file_of w.layout (type_scope w.layout t)) (whole_ending w t)
+own_type_ending w t = beyond_prelude (file_of w.layout (type_scope w.layout t)) (type_ending w t)
 
 -- what the unit with a number comes to
 abbrev pub unit_ending : FolderOf → ℕ → Rule (List DiagOf)

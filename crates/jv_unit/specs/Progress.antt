@@ -1,11 +1,17 @@
--- How far the checker of a type came.
+-- How far the checker of a file or of a type came.
 use Rattle.std.specs.Prelude.{ℕ, List, [], drop, Option, IfSome, slice_index_or}
 use Rattle.sg_base.specs.declared.scope.Scope.{Scope}
 use Rattle.sg_query.specs.declared.answer.Answer.{Answer}
 use Rattle.sg_query.specs.declared.query.Query.{Query}
-use Rattle.sg_reading.specs.Progress.{Reaches}
-use Rattle.sg_reading.specs.Reading.{done}
+use Rattle.sg_reading.specs.Progress.{HasResidual}
+use Rattle.sg_reading.specs.Reading.{done, and_then}
 use Rattle.jv_diag.specs.Plain.{DiagOf}
+use Rattle.jv_header.specs.declared.header.Header.{Header}
+use Rattle.jv_header.specs.declared.header_progress.HeaderProgress.{HeaderProgress}
+use Rattle.jv_header.specs.declared.imports_progress.ImportsProgress.{ImportsProgress}
+use Rattle.jv_header.specs.ImportsProgress.{AreImportsSoFar}
+use Rattle.jv_header.specs.RowProgress.{IsDependenceSoFar}
+use Rattle.jv_header.specs.Progress.{IsHeaderSoFar}
 use Rattle.jv_expr.specs.declared.body_progress.BodyProgress.{BodyProgress}
 use Rattle.jv_expr.specs.Bodies.{field_rule}
 use Rattle.jv_expr.specs.Progress.{ctor_left, method_left}
@@ -17,12 +23,15 @@ use Rattle.jv_layout.specs.Scopes.{member_scope, type_scope}
 use Rattle.jv_member.specs.Own.{OwnMember, own_field, own_method, own_ctor, default_ctor}
 use Rattle.jv_names.specs.Replies.{Rule}
 use Rattle.jv_tree.specs.declared.name.Ident.{Ident}
-use Rattle.jv_unit.specs.declared.begun_bodies.BegunBodies.{BegunBodies}
+use Rattle.jv_unit.specs.declared.begun_checks.BegunChecks.{BegunChecks}
+use Rattle.jv_unit.specs.declared.begun_head.BegunHead.{BegunHead}
+use Rattle.jv_unit.specs.declared.begun_type.BegunType.{BegunType}
+use Rattle.jv_unit.specs.declared.begun_type.BegunType.TheVariants.{Head, Checks}
+use Rattle.jv_unit.specs.Checks.{Check, declaration, overriding, meeting, calling, body, checks_of}
 use Rattle.jv_unit.specs.Folder.{FolderOf}
-use Rattle.jv_unit.specs.MemberBodies.{member_body, with_bodies}
 use Rattle.jv_unit.specs.Owns.{own_at}
-use Rattle.jv_unit.specs.Plans.{whole_ending}
-use Rattle.jv_unit.specs.Trees.{decl_at, extends_of}
+use Rattle.jv_unit.specs.Plans.{all_checks, behind_header, check_rule, type_ending, with_checks}
+use Rattle.jv_unit.specs.Trees.{decl_at, extends_of, implements_of, unit_at}
 
 abbrev pub Replies : Type 0
 Replies = Query JavaPred → Option (Answer JavaDatum)
@@ -38,26 +47,50 @@ abbrev pub member_left : FolderOf → ℕ → List Scope → ℕ → BodyProgres
 member_left w t blanks m p =
     own_left w.layout w.names (type_scope w.layout t) (extends_of (decl_at w.files t)) blanks (member_scope w.layout m) (own_at w.files m) p
 
--- the rules of a type, of a body, and of what is left of it, as names alone
+-- the rule of a type, as a name alone
 unfoldable pub whole_rule : FolderOf → ℕ → Rule (List DiagOf)
-whole_rule w t = whole_ending w t
+whole_rule w t = type_ending w t
 
-unfoldable pub body_rule : FolderOf → ℕ → List Scope → ℕ → Rule (List DiagOf)
-body_rule w t blanks m = member_body w t blanks m
+-- what is left of a check: of a body what is left of that, and else all
+unfoldable pub check_left : FolderOf → ℕ → List Scope → Check → BodyProgress → Rule (List DiagOf)
+check_left w t blanks (declaration m) p = check_rule w t blanks (declaration m)
+check_left w t blanks (overriding m) p = check_rule w t blanks (overriding m)
+check_left w t blanks meeting p = check_rule w t blanks meeting
+check_left w t blanks (calling m) p = check_rule w t blanks (calling m)
+check_left w t blanks (body m) p = member_left w t blanks m p
 
-unfoldable pub body_left : FolderOf → ℕ → List Scope → ℕ → BodyProgress → Rule (List DiagOf)
-body_left w t blanks m p = member_left w t blanks m p
+-- the check at a place of those of a type
+abbrev pub check_in : FolderOf → ℕ → ℕ → Check
+check_in w t place = slice_index_or (checks_of (members_of_type w.layout t)) place meeting
 
--- the number of the member at a place of a type
-abbrev pub member_in : FolderOf → ℕ → ℕ → ℕ
-member_in w t place = slice_index_or (members_of_type w.layout t) place 0
-
--- over these replies the rule of a type goes on as that of its bodies from a member on, behind the diagnostics so far, and the rule of that member's body
+-- over these replies the rule of a type goes on as that of its checks from a place on, behind the diagnostics so far, and the rule of the check there
 -- goes on as what is left of it
-pub record AreSoFar (reply : Replies) (w : FolderOf) (t : ℕ) (b : BegunBodies) : Type 0 where
-  pub bodies : Reaches reply (whole_rule w t) (with_bodies w t b.blanks b.diags (drop b.place (members_of_type w.layout t)))
-  pub body : Reaches reply (body_rule w t b.blanks (member_in w t b.place)) (body_left w t b.blanks (member_in w t b.place) b.body)
+pub record AreSoFar (reply : Replies) (w : FolderOf) (t : ℕ) (b : BegunChecks) : Type 0 where
+  pub rest : HasResidual reply (whole_rule w t) (with_checks w t b.blanks b.diags (drop b.place (checks_of (members_of_type w.layout t))))
+  pub check : HasResidual reply (check_rule w t b.blanks (check_in w t b.place)) (check_left w t b.blanks (check_in w t b.place) b.body)
+
+-- what is left of a type whose header is known
+unfoldable pub head_left : FolderOf → ℕ → Header → Rule (List DiagOf)
+head_left w t h = and_then (behind_header w t h) (all_checks w t)
+
+-- over these replies the rule of a type goes on as what is left behind its header, and the rule of its dependence on itself as what is left of that
+pub record IsHeadSoFar (reply : Replies) (w : FolderOf) (t : ℕ) (b : BegunHead) : Type 0 where
+  pub rest : HasResidual reply (whole_rule w t) (head_left w t b.header)
+  pub dependence : IsDependenceSoFar reply w.layout (type_scope w.layout t) b.header.row b.dependence
+
+-- its head was begun so far, or its checks
+abbrev pub IsBegunSoFar : Replies → FolderOf → ℕ → BegunType → Type 0
+IsBegunSoFar reply w t (Head b) = IsHeadSoFar reply w t b
+IsBegunSoFar reply w t (Checks b) = AreSoFar reply w t b
 
 -- nothing was begun, or that was
-abbrev pub IsSoFar : Replies → FolderOf → ℕ → Option BegunBodies → Type 0
-IsSoFar reply w t o = IfSome o (AreSoFar reply w t)
+abbrev pub IsSoFar : Replies → FolderOf → ℕ → Option BegunType → Type 0
+IsSoFar reply w t o = IfSome o (IsBegunSoFar reply w t)
+
+-- over these replies some references of the header of a type were read so far
+abbrev pub IsReadSoFar : Replies → FolderOf → ℕ → HeaderProgress → Type 0
+IsReadSoFar reply w t p = IsHeaderSoFar reply w.layout (type_scope w.layout t) (extends_of (decl_at w.files t)) (implements_of (decl_at w.files t)) p
+
+-- over these replies some imports of a file were read so far
+abbrev pub AreFileImportsSoFar : Replies → FolderOf → ℕ → ImportsProgress → Type 0
+AreFileImportsSoFar reply w f p = AreImportsSoFar reply w.layout f (unit_at w.files f).imports p

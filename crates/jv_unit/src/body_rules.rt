@@ -1,21 +1,19 @@
 //! What the unit of a type reads of the bodies and the initializers of its members.
 
-ghost use Rattle.std.specs.Prelude.{◌≡◌, ◌<◌, length, None, IfOk};
-ghost use Rattle.sg_reading.specs.Progress.{Reaches};
+ghost use Rattle.std.specs.Prelude.{◌≡◌, ◌<◌, length, IfOk};
+ghost use Rattle.sg_reading.specs.Progress.{HasResidual};
 ghost use Rattle.sg_reading.specs.Stop.{Reads};
-ghost use Rattle.jv_expr.specs.Checking.{only_diags};
 ghost use Rattle.jv_layout.specs.Scopes.{member_scope};
 ghost use Rattle.jv_member.specs.MemberDecls.{own_of};
 ghost use Rattle.jv_names.specs.Replies.{reply_to};
+ghost use Rattle.jv_unit.specs.Checks.{body};
 ghost use Rattle.jv_unit.specs.Kept.{folder_of, IsWhole};
 ghost use Rattle.jv_unit.specs.MemberBodies.{is_blank, type_blanks};
-ghost use Rattle.jv_unit.specs.Progress.{AreSoFar, body_left, body_rule, IsSoFar, whole_rule};
+ghost use Rattle.jv_unit.specs.Plans.{check_rule};
+ghost use Rattle.jv_unit.specs.Progress.{check_left};
 
-use crate::begun_bodies::BegunBodies;
 use crate::folder::Folder;
 use crate::member_rules::{member_at, member_count, member_number};
-use crate::type_progress::TypeProgress;
-use crate::type_rules::finish_type;
 use jv_diag::DiagList;
 use jv_expr::{BodyProgress, read_ctor_body, read_field_init, read_method_body};
 use jv_instance::JavaPred;
@@ -43,7 +41,7 @@ fn is_blank(l: &Layout, scope: Scope, member: &MemberDecl<'_>) -> bool
 
 /// The blank fields of a type, which its constructors assign. It takes time in the members of the type.
 #[tactic(auto, using(crate::proofs::OwnMembers::member_facts, crate::proofs::MemberBodies::blank_steps))]
-fn blanks(alloc: Global, w: &Folder, t: u32) -> Result<ScopeList, AllocError>
+pub(crate) fn blanks(alloc: Global, w: &Folder, t: u32) -> Result<ScopeList, AllocError>
     requires whole { IsWhole w.now }
     requires within { t < length w.now.layout.types }
     ensures { IfOk result (λ bs. bs ≡ type_blanks (folder_of w.now) t) }
@@ -61,7 +59,7 @@ fn blanks(alloc: Global, w: &Folder, t: u32) -> Result<ScopeList, AllocError>
 
 /// What is wrong in the body or the initializer of a member, as far as the replies tell it, or the first query that has no reply. It
 /// goes on from where the progress says that it came to.
-fn read_body(
+pub(crate) fn read_body(
     alloc: Global,
     w: &Folder,
     o: &Oracle,
@@ -75,9 +73,9 @@ fn read_body(
     requires within { t < length w.now.layout.types }
     requires member { m < length w.now.layout.members }
     requires scope { scope ≡ member_scope w.now.layout m }
-    requires so_far { Reaches (reply_to o.now) (body_rule (folder_of w.now) t blanks.now m) (body_left (folder_of w.now) t blanks.now m progress.old) }
-    ensures reads { Reads (reply_to o.now) (body_rule (folder_of w.now) t blanks.now m) result }
-    ensures so_far { Reaches (reply_to o.now) (body_rule (folder_of w.now) t blanks.now m) (body_left (folder_of w.now) t blanks.now m progress.new) }
+    requires so_far { HasResidual (reply_to o.now) (check_rule (folder_of w.now) t blanks.now (body m)) (check_left (folder_of w.now) t blanks.now (body m) progress.old) }
+    ensures reads { Reads (reply_to o.now) (check_rule (folder_of w.now) t blanks.now (body m)) result }
+    ensures so_far { HasResidual (reply_to o.now) (check_rule (folder_of w.now) t blanks.now (body m)) (check_left (folder_of w.now) t blanks.now (body m) progress.new) }
 {
     let (l, n, ty) = (w.layout(), w.names(), w.ty(t));
     let extends = w.decl(t).extends.as_slice();
@@ -92,114 +90,5 @@ fn read_body(
             read_ctor_body(alloc, l, n, o, ty, extends, blanks, scope, ctor, progress)
         }
         MemberDecl::DefaultCtor(_) => Ok(DiagList::empty(alloc)),
-    }
-}
-
-/// The bodies of a type that are left. Where a reply is missing, those before stay checked, and so do the statements before the one at
-/// the top of a body that asks for it.
-#[tactic(auto, using(crate::proofs::BodyRules::bodies_steps))]
-fn read_bodies(
-    alloc: Global,
-    w: &Folder,
-    o: &Oracle,
-    t: u32,
-    bodies: &mut BegunBodies,
-) -> Result<(), Stop<Query<JavaPred>>>
-    requires whole { IsWhole w.now }
-    requires within { t < length w.now.layout.types }
-    requires so_far { AreSoFar (reply_to o.now) (folder_of w.now) t bodies.old }
-    ensures reads { Reads (reply_to o.now) (whole_rule (folder_of w.now) t) (only_diags result bodies.new.diags) }
-    ensures so_far { AreSoFar (reply_to o.now) (folder_of w.now) t bodies.new }
-{
-    while bodies.place < member_count(w, t) {
-        let m = member_number(w, t, bodies.place);
-        let scope = member_at(w, t, bodies.place);
-        let part = read_body(
-            alloc,
-            w,
-            o,
-            t,
-            bodies.blanks.as_slice(),
-            scope,
-            m,
-            &mut bodies.body,
-        )?;
-        bodies.pass(part)?;
-    }
-    Ok(())
-}
-
-/// All that is wrong with a type, of whose bodies some were checked.
-#[tactic(auto, using(crate::proofs::BodyRules::whole_steps))]
-fn go_on(
-    alloc: Global,
-    w: &Folder,
-    o: &Oracle,
-    t: u32,
-    bodies: BegunBodies,
-    progress: &mut TypeProgress,
-) -> Result<DiagList, Stop<Query<JavaPred>>>
-    requires whole { IsWhole w.now }
-    requires within { t < length w.now.layout.types }
-    requires new { progress.old.begun ≡ None }
-    requires so_far { AreSoFar (reply_to o.now) (folder_of w.now) t bodies }
-    ensures reads { Reads (reply_to o.now) (whole_rule (folder_of w.now) t) result }
-    ensures so_far { IsSoFar (reply_to o.now) (folder_of w.now) t progress.new.begun }
-{
-    let mut bodies = bodies;
-    match read_bodies(alloc, w, o, t, &mut bodies) {
-        Ok(()) => Ok(bodies.diags),
-        Err(stop) => {
-            progress.keep(bodies);
-            Err(stop)
-        }
-    }
-}
-
-/// All that is wrong with a type, of which nothing was checked.
-#[tactic(auto, using(crate::proofs::BodyRules::whole_steps))]
-fn start(
-    alloc: Global,
-    w: &Folder,
-    o: &Oracle,
-    t: u32,
-    progress: &mut TypeProgress,
-) -> Result<DiagList, Stop<Query<JavaPred>>>
-    requires whole { IsWhole w.now }
-    requires within { t < length w.now.layout.types }
-    requires new { progress.old.begun ≡ None }
-    ensures reads { Reads (reply_to o.now) (whole_rule (folder_of w.now) t) result }
-    ensures so_far { IsSoFar (reply_to o.now) (folder_of w.now) t progress.new.begun }
-{
-    let diags = finish_type(alloc, w, o, t)?;
-    let blanks = blanks(alloc, w, t)?;
-    let bodies = BegunBodies {
-        place: 0,
-        blanks,
-        diags,
-        body: BodyProgress::new(),
-    };
-    go_on(alloc, w, o, t, bodies, progress)
-}
-
-/// All that is wrong with a type, as far as the replies tell it, or the first query that has no reply. It goes on from where the
-/// progress says that it came to.
-#[tactic(auto, using(crate::proofs::BodyRules::whole_steps))]
-pub(crate) fn finish_whole(
-    alloc: Global,
-    w: &Folder,
-    o: &Oracle,
-    t: u32,
-    progress: &mut TypeProgress,
-) -> Result<DiagList, Stop<Query<JavaPred>>>
-    requires whole { IsWhole w.now }
-    requires within { t < length w.now.layout.types }
-    requires so_far { IsSoFar (reply_to o.now) (folder_of w.now) t progress.old.begun }
-    ensures reads { Reads (reply_to o.now) (whole_rule (folder_of w.now) t) result }
-    ensures so_far { IsSoFar (reply_to o.now) (folder_of w.now) t progress.new.begun }
-{
-    match progress.take() {
-        None => start(alloc, w, o, t, progress),
-        Some(bodies) => go_on(alloc, w, o, t, bodies, progress),
     }
 }

@@ -10,10 +10,11 @@ ghost use Rattle.jv_header.specs.Imports.{import_edges};
 ghost use Rattle.jv_names.specs.Replies.{reply_to};
 ghost use Rattle.jv_unit.specs.Kept.{folder_of, IsWhole};
 ghost use Rattle.jv_unit.specs.Plans.{file_rows, file_stage, file_ending};
+ghost use Rattle.jv_unit.specs.Progress.{AreFileImportsSoFar};
 
 use crate::folder::Folder;
 use jv_diag::DiagList;
-use jv_header::{FileImports, read_imports};
+use jv_header::{FileImports, ImportsProgress, read_imports};
 use jv_instance::{JavaDatum, JavaPred, labels};
 use jv_layout::Layout;
 use jv_names::Oracle;
@@ -87,34 +88,42 @@ fn import_writes(
     Ok(writes)
 }
 
-/// The writes of the unit of a file as far as the replies tell them, or the first query that has no reply.
+/// The writes of the unit of a file as far as the replies tell them, or the first query that has no reply. It goes on with the first
+/// import that was not read so far.
 #[tactic(auto, using(crate::proofs::Folders::folder_facts))]
 pub(crate) fn read_file(
     alloc: Global,
     w: &Folder,
     o: &Oracle,
     file: u32,
+    imports: &mut ImportsProgress,
 ) -> Result<Writes<JavaDatum>, Stop<Query<JavaPred>>>
     requires whole { IsWhole w.now }
     requires within { file < length w.now.layout.files }
-    ensures { Reads (reply_to o.now) (file_stage (folder_of w.now) file).rule result }
+    requires so_far { AreFileImportsSoFar (reply_to o.now) (folder_of w.now) file imports.old }
+    ensures reads { Reads (reply_to o.now) (file_stage (folder_of w.now) file).rule result }
+    ensures so_far { AreFileImportsSoFar (reply_to o.now) (folder_of w.now) file imports.new }
 {
-    let imports = read_imports(alloc, w.layout(), w.names(), o, file, w.file(file))?;
-    import_writes(alloc, w.layout(), file, &imports)
+    let given = read_imports(alloc, w.layout(), w.names(), o, file, w.file(file), imports)?;
+    import_writes(alloc, w.layout(), file, &given)
 }
 
-/// The diagnostics of a file as far as the replies tell them, or the first query that has no reply.
+/// The diagnostics of a file as far as the replies tell them, or the first query that has no reply. It goes on with the first import
+/// that was not read so far.
 #[tactic(auto, using(crate::proofs::Folders::folder_facts))]
 pub(crate) fn finish_file(
     alloc: Global,
     w: &Folder,
     o: &Oracle,
     file: u32,
+    imports: &mut ImportsProgress,
 ) -> Result<DiagList, Stop<Query<JavaPred>>>
     requires whole { IsWhole w.now }
     requires within { file < length w.now.layout.files }
-    ensures { Reads (reply_to o.now) (file_ending (folder_of w.now) file) result }
+    requires so_far { AreFileImportsSoFar (reply_to o.now) (folder_of w.now) file imports.old }
+    ensures reads { Reads (reply_to o.now) (file_ending (folder_of w.now) file) result }
+    ensures so_far { AreFileImportsSoFar (reply_to o.now) (folder_of w.now) file imports.new }
 {
-    let imports = read_imports(alloc, w.layout(), w.names(), o, file, w.file(file))?;
-    Ok(imports.into_diags())
+    let given = read_imports(alloc, w.layout(), w.names(), o, file, w.file(file), imports)?;
+    Ok(given.into_diags())
 }

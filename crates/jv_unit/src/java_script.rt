@@ -2,6 +2,7 @@ use crate::folder::Folder;
 use crate::type_progress::TypeProgress;
 use crate::unit_rules::{finish_unit, read_unit, stage_count};
 use jv_diag::DiagList;
+use jv_header::{HeaderProgress, ImportsProgress};
 use jv_instance::{Java, JavaDatum, JavaPred};
 use jv_names::Oracle;
 use sg_query::{Answer, Query, copy_query};
@@ -12,15 +13,18 @@ use std::marker::Model;
 use std::sync::Arc;
 
 /// What the unit with a number does, over the folder that all units share, and the replies that have come to it. Units come in
-/// the order of files, and behind them in the order of types. Contracts see these (`ScriptOf`), and not how far the check of a type's
-/// bodies came: where a reply is missing there, it goes on with the statement at the top of a body that asked for it.
+/// the order of files, and behind them in the order of types. Contracts see these (`ScriptOf`), and not how far the imports of a file
+/// or the header and the checks of a type came: where a reply is missing, it goes on with the import or the reference that asked for
+/// it, with the check of the member that did, and in a body with the statement at its top.
 #[derive(Drop)]
 pub struct JavaScript {
     alloc: Global,
     folder: Arc<Folder, Global>,
     unit: u32,
     replies: Oracle,
+    header: HeaderProgress,
     progress: TypeProgress,
+    imports: ImportsProgress,
 }
 
 impl Model for JavaScript {
@@ -30,7 +34,7 @@ impl Model for JavaScript {
     ghost use Rattle.jv_names.specs.Replies.{reply_to};
     ghost use Rattle.jv_unit.specs.contracts.folder.Folder.{the_row};
     ghost use Rattle.jv_unit.specs.Kept.{folder_of};
-    ghost use Rattle.jv_unit.specs.Progress.{IsSoFar};
+    ghost use Rattle.jv_unit.specs.Progress.{AreFileImportsSoFar, IsReadSoFar, IsSoFar};
     ghost use Rattle.jv_unit.specs.Script.{ScriptOf};
 
     ghost Value = { ScriptOf };
@@ -39,7 +43,9 @@ impl Model for JavaScript {
 
     ghost view = { λ s. record { alloc = s.alloc; folder = s.folder; unit = s.unit; replies = s.replies } };
 
-    ghost invariant = { λ s. IsSoFar (reply_to s.replies) (folder_of (arc_value s.folder)) (s.unit - length (arc_value s.folder).layout.files) s.progress.begun };
+    ghost invariant = { λ s. IsReadSoFar (reply_to s.replies) (folder_of (arc_value s.folder)) (s.unit - length (arc_value s.folder).layout.files) s.header
+        × IsSoFar (reply_to s.replies) (folder_of (arc_value s.folder)) (s.unit - length (arc_value s.folder).layout.files) s.progress.begun
+        × AreFileImportsSoFar (reply_to s.replies) (folder_of (arc_value s.folder)) s.unit s.imports };
 }
 
 impl JavaScript {
@@ -54,7 +60,9 @@ impl JavaScript {
             folder,
             unit,
             replies: Oracle::new(alloc),
+            header: HeaderProgress::new(alloc),
             progress: TypeProgress::new(),
+            imports: ImportsProgress::new(alloc),
         }
     }
 }
@@ -98,7 +106,9 @@ impl Script for JavaScript {
     }
 
     fn take_back(&mut self) {
+        self.header = HeaderProgress::new(self.alloc);
         self.progress = TypeProgress::new();
+        self.imports = ImportsProgress::new(self.alloc);
         let _last = self.replies.take_back();
     }
 
@@ -106,7 +116,15 @@ impl Script for JavaScript {
         &mut self,
         stage: usize,
     ) -> Result<Known<Writes<JavaDatum>, Query<JavaPred>>, AllocError> {
-        Known::from_found(read_unit(self.alloc, &self.folder, &self.replies, self.unit, stage))
+        Known::from_found(read_unit(
+            self.alloc,
+            &self.folder,
+            &self.replies,
+            self.unit,
+            stage,
+            &mut self.header,
+            &mut self.imports,
+        ))
     }
 
     fn finish(&mut self) -> Result<Known<DiagList, Query<JavaPred>>, AllocError> {
@@ -115,7 +133,9 @@ impl Script for JavaScript {
             &self.folder,
             &self.replies,
             self.unit,
+            &mut self.header,
             &mut self.progress,
+            &mut self.imports,
         ))
     }
 }

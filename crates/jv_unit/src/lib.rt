@@ -3,15 +3,21 @@
 //! What each does is a plan (`specs/Plans.antt`), a list of stages that are rules over replies: the unit of a file reads its
 //! imports, writes the edges that they give, and comes to their diagnostics; the unit of a type reads its header, writes its
 //! supertypes and then the signature of each member, and comes to the diagnostics of its header, its declaration, its members and
-//! their bodies. All units of a folder share its layout, names and trees (`Folder`). `java_units` makes them: each follows the
-//! script of its number (`JavaScript`), so it asks what its rules ask and gives what they give, and no unit is written by hand.
+//! their bodies. What is checked behind the header is a list (`specs/Checks.antt`), done one check after another: a missing reply
+//! repeats at most the check that asks for it. All units of a folder share its layout, names and trees (`Folder`). `java_units`
+//! makes them: each follows the script of its number (`JavaScript`), so it asks what its rules ask and gives what they give, and
+//! no unit is written by hand.
 #![tactic(auto)]
 
-mod begun_bodies;
+mod begun_checks;
+mod begun_head;
+mod begun_type;
 mod body_rules;
+mod check_rules;
 mod decl_paths;
 mod file_rules;
 mod folder;
+mod head_rules;
 mod java_script;
 mod member_places;
 mod member_rules;

@@ -1,22 +1,19 @@
 //! What the unit of a type reads and writes of its members.
 
-ghost use Rattle.std.specs.Prelude.{◌≡◌, ◌<◌, ◌^◌, ◌++◌, [], ◌∷◌, length, MatchResult, slice_index_or};
+ghost use Rattle.std.specs.Prelude.{◌≡◌, ◌<◌, ◌^◌, [], ◌∷◌, length, MatchResult, slice_index_or};
 ghost use Rattle.sg_reading.specs.Stop.{Reads};
 ghost use Rattle.sg_reading.specs.declared.stop.Stop.TheVariants.{OutOfMemory};
 ghost use Rattle.sg_script.specs.declared.write.Write.TheVariants.{SetDatum};
 ghost use Rattle.jv_layout.specs.Readers.{members_of_type};
-ghost use Rattle.jv_layout.specs.Scopes.{member_scope, type_scope};
-ghost use Rattle.jv_member.specs.Members.{members_rule};
+ghost use Rattle.jv_layout.specs.Scopes.{member_scope};
 ghost use Rattle.jv_names.specs.Replies.{reply_to};
 ghost use Rattle.jv_unit.specs.Kept.{folder_of, IsWhole};
-ghost use Rattle.jv_unit.specs.Trees.{decl_at};
-ghost use Rattle.jv_unit.specs.Plans.{member_part, member_signature, signature_stage, with_members, with_parts};
+ghost use Rattle.jv_unit.specs.Plans.{member_signature, signature_stage};
 
 use crate::folder::Folder;
-use jv_diag::DiagList;
 use jv_instance::{JavaDatum, JavaPred};
 use jv_layout::Place;
-use jv_member::{Signature, read_members, read_signature};
+use jv_member::{Signature, read_signature};
 use jv_names::Oracle;
 use sg_base::Scope;
 use sg_query::Query;
@@ -30,7 +27,7 @@ pub(crate) fn member_count(w: &Folder, t: u32) -> usize
     requires whole { IsWhole w.now }
     requires within { t < length w.now.layout.types }
     ensures count { result ≡ length (members_of_type w.now.layout t) }
-    ensures few { result < 2 ^ 63 }
+    ensures few { result < 2 ^ 31 }
 {
     w.layout().members(w.ty(t)).len()
 }
@@ -62,7 +59,7 @@ pub(crate) fn member_number(w: &Folder, t: u32, place: usize) -> u32
 }
 
 /// The signature of a member as far as the replies tell it, or the first query that has no reply.
-fn read_member(
+pub(crate) fn read_member(
     alloc: Global,
     w: &Folder,
     o: &Oracle,
@@ -117,96 +114,4 @@ pub(crate) fn read_datum(
     let signature = read_member(alloc, w, o, t, member_number(w, t, place))?;
     let scope = w.layout().signature_scope(member_at(w, t, place));
     datum_writes(alloc, scope, signature.datum)
-}
-
-/// The diagnostics of the types in the signature of a member, by its place among those of its type, as far as the replies tell
-/// them.
-#[tactic(auto, using(crate::proofs::OwnMembers::member_facts))]
-fn read_part(
-    alloc: Global,
-    w: &Folder,
-    o: &Oracle,
-    t: u32,
-    place: usize,
-) -> Result<DiagList, Stop<Query<JavaPred>>>
-    requires whole { IsWhole w.now }
-    requires within { t < length w.now.layout.types }
-    requires place { place < length (members_of_type w.now.layout t) }
-    ensures { Reads (reply_to o.now) (member_part (folder_of w.now) t (slice_index_or (members_of_type w.now.layout t) place 0)) result }
-{
-    let m = member_number(w, t, place);
-    let signature = read_member(alloc, w, o, t, m)?;
-    Ok(signature.diags)
-}
-
-/// The diagnostics of the types in the signatures of a type's members behind others, as far as the replies tell them, or the
-/// first query that has no reply.
-#[tactic(auto, using(crate::proofs::OwnMembers::part_steps))]
-fn read_parts(
-    alloc: Global,
-    w: &Folder,
-    o: &Oracle,
-    t: u32,
-    before: DiagList,
-) -> Result<DiagList, Stop<Query<JavaPred>>>
-    requires whole { IsWhole w.now }
-    requires within { t < length w.now.layout.types }
-    ensures { Reads (reply_to o.now) (with_parts (folder_of w.now) t before (members_of_type w.now.layout t)) result }
-{
-    let mut diags = before;
-    for place in 0..member_count(w, t) {
-        let part = read_part(alloc, w, o, t, place)?;
-        diags.append(part)?;
-    }
-    Ok(diags)
-}
-
-/// All that is checked of the members of a type, as far as the replies tell it, or the first query that has no reply.
-fn read_checks(
-    alloc: Global,
-    w: &Folder,
-    o: &Oracle,
-    t: u32,
-) -> Result<DiagList, Stop<Query<JavaPred>>>
-    requires whole { IsWhole w.now }
-    requires within { t < length w.now.layout.types }
-    ensures { Reads (reply_to o.now) (members_rule w.now.layout w.now.names (type_scope w.now.layout t) (decl_at (folder_of w.now).files t)) result }
-{
-    let decl = w.decl(t);
-    read_members(
-        alloc,
-        w.layout(),
-        w.declarations(),
-        w.names(),
-        o,
-        decl,
-        w.ty(t),
-    )
-}
-
-/// Two lists of diagnostics, one behind the other.
-fn behind(first: DiagList, second: DiagList) -> Result<DiagList, Stop<Query<JavaPred>>>
-    ensures { MatchResult result (λ ds. ds ≡ first ++ second) (λ stop. stop ≡ OutOfMemory) }
-{
-    let mut diags = first;
-    diags.append(second)?;
-    Ok(diags)
-}
-
-/// The diagnostics of the members of a type behind others, as far as the replies tell them, or the first query that has no
-/// reply.
-pub(crate) fn finish_members(
-    alloc: Global,
-    w: &Folder,
-    o: &Oracle,
-    t: u32,
-    before: DiagList,
-) -> Result<DiagList, Stop<Query<JavaPred>>>
-    requires whole { IsWhole w.now }
-    requires within { t < length w.now.layout.types }
-    ensures { Reads (reply_to o.now) (with_members (folder_of w.now) t before) result }
-{
-    let parts = read_parts(alloc, w, o, t, before)?;
-    let checks = read_checks(alloc, w, o, t)?;
-    behind(parts, checks)
 }

@@ -1,11 +1,11 @@
 ghost use Rattle.std.specs.Prelude.{◌≡◌, None, Some};
 
-use crate::begun_bodies::BegunBodies;
+use crate::begun_type::BegunType;
 
-/// How far the checker of a type came: nowhere yet, or to some of its bodies.
+/// How far the checker of a type came: nowhere yet, behind its header, or to one of the checks behind its head.
 #[derive(Drop)]
 pub(crate) struct TypeProgress {
-    begun: Option<BegunBodies>,
+    begun: Option<BegunType>,
 }
 
 impl TypeProgress {
@@ -17,7 +17,7 @@ impl TypeProgress {
     }
 
     /// Takes what was begun, so that nothing is.
-    pub(crate) fn take(&mut self) -> Option<BegunBodies>
+    pub(crate) fn take(&mut self) -> Option<BegunType>
         ensures begun { result ≡ self.old.begun }
         ensures new { self.new.begun ≡ None }
     {
@@ -25,9 +25,9 @@ impl TypeProgress {
     }
 
     /// Keeps what was begun.
-    pub(crate) fn keep(&mut self, bodies: BegunBodies)
-        ensures { self.new.begun ≡ Some bodies }
+    pub(crate) fn keep(&mut self, begun: BegunType)
+        ensures { self.new.begun ≡ Some begun }
     {
-        self.begun = Some(bodies);
+        self.begun = Some(begun);
     }
 }

@@ -1,5 +1,5 @@
 use Rattle.std.proofs.Common.{◌≡◌, ◌-◌, length}
-use Rattle.sg_reading.specs.Progress.{Reaches}
+use Rattle.sg_reading.specs.Progress.{HasResidual}
 use Rattle.jv_tree.specs.StmtTree.{stmt_trees}
 use Rattle.jv_names.specs.Replies.{reply_to}
 use Rattle.jv_expr.specs.Progress.{statements_left}
@@ -9,7 +9,7 @@ use Rattle.jv_expr.proofs.top_statements.check_left.Given as goal
 -- what was left at first goes on as what is left now
 abbrev pub invariant-loop-body : goal.invariant-loop-body
 invariant-loop-body l = record {
-  left : Reaches (reply_to l.o) (statements_left (site_of l.site) (stmt_trees l.ss) l.fn.body) (statements_left (site_of l.site) (stmt_trees l.ss) l.body);
+  left : HasResidual (reply_to l.o) (statements_left (site_of l.site) (stmt_trees l.ss) l.fn.body) (statements_left (site_of l.site) (stmt_trees l.ss) l.body);
   result : l.body.result ≡ l.fn.body.result;
 }
 

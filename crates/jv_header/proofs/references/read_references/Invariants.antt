@@ -1,17 +1,11 @@
-use Rattle.std.proofs.Common.{List, Result, map, drop}
-use Rattle.sg_query.specs.declared.query.Query.{Query}
-use Rattle.sg_reading.specs.declared.stop.Stop.{Stop}
-use Rattle.sg_reading.specs.Reading.{each}
-use Rattle.sg_reading.specs.Stop.{Reads}
-use Rattle.sg_reading.proofs.Lists.{each_after}
-use Rattle.jv_instance.specs.declared.pred.JavaPred.{JavaPred}
+use Rattle.std.proofs.Common.{◌-◌, length, map}
 use Rattle.jv_tree.specs.TypeTree.{ids_of}
-use Rattle.jv_names.specs.declared.reference.Reference.{Reference}
 use Rattle.jv_names.specs.Replies.{reply_to}
-use Rattle.jv_header.specs.Header.{header_reference}
+use Rattle.jv_header.specs.Progress.{IsClauseSoFar}
 use Rattle.jv_header.proofs.references.read_references.Given as goal
 
--- what the rule comes to for the rest of the names, after the references so far, it comes to for all of them
-abbrev pub invariant-loop-name : goal.invariant-loop-name
-invariant-loop-name l =
-    (x : Result (List Reference) (Stop (Query JavaPred))) → Reads (reply_to l.o) (each_after (header_reference l.l l.fn.ty) l.found (map ids_of (drop l.name-index l.clause))) x → Reads (reply_to l.o) (each (header_reference l.l l.fn.ty) (map ids_of l.clause)) x
+abbrev pub invariant-loop-alloc : goal.invariant-loop-alloc
+invariant-loop-alloc l = IsClauseSoFar (reply_to l.o) l.l l.fn.ty (map ids_of l.clause) l.found
+
+abbrev pub decreases-loop-alloc : goal.decreases-loop-alloc
+decreases-loop-alloc l = length l.clause - length l.found

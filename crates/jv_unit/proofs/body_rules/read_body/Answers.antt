@@ -5,7 +5,7 @@ use Rattle.jv_names.specs.Replies.{reply_to}
 use Rattle.jv_tree.specs.TypeTree.{ids_of}
 use Rattle.jv_unit.specs.Kept.{folder_of}
 use Rattle.jv_unit.specs.Trees.{extends_of}
-use Rattle.jv_unit.proofs.BodyRules.{body_reached, body_read, own_reached}
+use Rattle.jv_unit.proofs.CheckRules.{body_reached, body_read, own_reached}
 use Rattle.jv_unit.proofs.body_rules.read_body.Goals as goal
 
 pub read_method_body-requires : goal.read_method_body-requires

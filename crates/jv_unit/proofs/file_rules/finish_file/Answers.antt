@@ -1,11 +1,12 @@
 use Rattle.jv_names.specs.Replies.{reply_to}
 use Rattle.jv_tree.specs.DeclTree.{tree_of}
 use Rattle.jv_unit.specs.Kept.{folder_of}
+use Rattle.jv_unit.proofs.FileRules.{imports_here, imports_there}
 use Rattle.jv_unit.proofs.Steps.{file_unended, file_ended}
 use Rattle.jv_unit.proofs.file_rules.finish_file.Goals as goal
 
-pub returns-in_err-imports : goal.returns-in_err-imports
-returns-in_err-imports c = file_unended (reply_to c.args.o.now) (folder_of c.args.w.now) c.args.file c.layout.result.now c.names.result.now (tree_of c.file.result.now) c.layout.ensures c.names.ensures c.file.ensures c.in_err-imports.field-0.0 c.from_residual.result c.from_residual.ensures.1 c.in_err-imports.ensures
+pub returns-in_err-given-clause-reads : goal.returns-in_err-given-clause-reads
+returns-in_err-given-clause-reads c = file_unended (reply_to c.args.o.now) (folder_of c.args.w.now) c.args.file c.layout.result.now c.names.result.now (tree_of c.file.result.now) c.layout.ensures c.names.ensures c.file.ensures c.in_err-given.field-0.0 c.from_residual.result c.from_residual.ensures.1 c.in_err-given.ensures.reads
 
-pub returns : goal.returns
-returns c = file_ended (reply_to c.args.o.now) (folder_of c.args.w.now) c.args.file c.layout.result.now c.names.result.now (tree_of c.file.result.now) c.layout.ensures c.names.ensures c.file.ensures c.in_ok-imports.imports c.into_diags.result c.in_ok-imports.ensures c.into_diags.ensures
+pub returns-clause-reads : goal.returns-clause-reads
+returns-clause-reads c = file_ended (reply_to c.args.o.now) (folder_of c.args.w.now) c.args.file c.layout.result.now c.names.result.now (tree_of c.file.result.now) c.layout.ensures c.names.ensures c.file.ensures c.in_ok-given.given c.into_diags.result c.in_ok-given.ensures.reads c.into_diags.ensures

@@ -5,6 +5,8 @@ use Rattle.jv_names.specs.Replies.{reply_to}
 use Rattle.jv_unit.specs.Kept.{folder_of}
 use Rattle.jv_unit.specs.Script.{ScriptOf}
 use Rattle.jv_unit.specs.Scripts.{PutsReply}
+use Rattle.jv_unit.proofs.FileRules.{file_imports_put}
+use Rattle.jv_unit.proofs.HeaderRules.{read_so_far_put}
 use Rattle.jv_unit.proofs.Putting.{adds_reply, puts_reply, so_far_put}
 use Rattle.jv_unit.proofs.java_script.JavaScriptScript.put.Goals as goal
 
@@ -20,10 +22,15 @@ returns-clause-reply c =
     (adds_reply (record { alloc = c.self.inside.alloc; folder = c.self.inside.folder; unit = c.self.inside.unit; replies = c.self.inside.replies }) c.args.query.now c.in_ok-copy.copy c.args.answer c.put.new.self c.put.result
     (ap (λ (s : ScriptOf). reply_to s.replies c.args.query.now) c.self.view_is ∙ c.requires.first) c.in_ok-copy.ensures c.put.ensures.last)
 
--- a reply more leaves the check as far as it came
+-- a reply more leaves the header, the checks and the imports as far as they came
 pub invariant_of-self : goal.invariant_of-self
 invariant_of-self c =
-    so_far_put c.self.inside.replies c.put.new.self c.args.query.now c.args.answer (folder_of (arc_value c.self.inside.folder)) (c.self.inside.unit - length (arc_value c.self.inside.folder).layout.files) c.self.inside.progress.begun c.put.result
-    (adds_reply (record { alloc = c.self.inside.alloc; folder = c.self.inside.folder; unit = c.self.inside.unit; replies = c.self.inside.replies }) c.args.query.now c.in_ok-copy.copy c.args.answer c.put.new.self c.put.result
-    (ap (λ (s : ScriptOf). reply_to s.replies c.args.query.now) c.self.view_is ∙ c.requires.first) c.in_ok-copy.ensures c.put.ensures.last)
-    c.put.ensures.err c.self.invariant
+    let w = folder_of (arc_value c.self.inside.folder) in
+    let t = c.self.inside.unit - length (arc_value c.self.inside.folder).layout.files in
+    let adds =
+    adds_reply (record { alloc = c.self.inside.alloc; folder = c.self.inside.folder; unit = c.self.inside.unit; replies = c.self.inside.replies }) c.args.query.now c.in_ok-copy.copy c.args.answer c.put.new.self c.put.result
+    (ap (λ (s : ScriptOf). reply_to s.replies c.args.query.now) c.self.view_is ∙ c.requires.first) c.in_ok-copy.ensures c.put.ensures.last in (
+      read_so_far_put c.self.inside.replies c.put.new.self c.args.query.now c.args.answer w t c.self.inside.header c.put.result adds c.put.ensures.err c.self.invariant.0,
+      so_far_put c.self.inside.replies c.put.new.self c.args.query.now c.args.answer w t c.self.inside.progress.begun c.put.result adds c.put.ensures.err c.self.invariant.1,
+      file_imports_put c.self.inside.replies c.put.new.self c.args.query.now c.args.answer w c.self.inside.unit c.self.inside.imports c.put.result adds c.put.ensures.err c.self.invariant.2,
+    )

@@ -1,0 +1,99 @@
+//! Folders of sources for tests: their trees, their layouts, and how their scopes are printed.
+
+ghost use Rattle.std.specs.Prelude.{◌≡◌, ◌≤◌, length, map, IfOk, OnOk};
+ghost use Rattle.jv_layout.specs.Folder.{layout_of};
+ghost use Rattle.jv_layout.specs.Sizes.{IsFolder};
+ghost use Rattle.jv_tree.specs.DeclTree.{tree_of};
+ghost use Rattle.jv_tree.specs.Numbered.{IsNumbered};
+ghost use Rattle.jv_folders.specs.Numbered.{AreNumbered};
+
+use jv_layout::{Layout, Place, is_folder, layout, prelude};
+use jv_lex::lex;
+use jv_parse::parse;
+use jv_tree::{Names, Unit};
+use sg_base::Scope;
+use std::alloc::{AllocError, Global};
+use std::test::Fail;
+
+/// Files, in the order of their paths, each with its text.
+pub type Files<'a> = &'a [(&'a str, &'a str)];
+
+/// The labels by their numbers.
+const LABELS: [&str; 11] = [
+    "PKG", "TYPE", "SELF", "SIMP", "PKGOF", "ODI", "EXT", "FIELD", "METH", "CTOR", "SIG",
+];
+
+/// The word for a label.
+pub fn word_of(label: u8) -> &'static str {
+    LABELS.get(label as usize).copied().unwrap_or("?")
+}
+
+/// The tree of a source, whose identifiers have numbers of names.
+fn parsed(alloc: Global, source: &str, names: &mut Names) -> Result<Unit, Fail>
+    ensures numbered { IfOk result (λ u. IsNumbered (length names.new) (tree_of u)) }
+    ensures more { OnOk result (length names.old ≤ length names.new) }
+{
+    if source.len() > 1_048_576 {
+        return Err(Fail::new("a source is too long"));
+    }
+    let tokens = lex(alloc, source.as_bytes())?;
+    if tokens.len() > 1_048_576 || names.len() > 1_048_576 {
+        return Err(Fail::new("too many names"));
+    }
+    Ok(parse(alloc, source, &tokens, names)?)
+}
+
+/// Adds the tree of a source behind others.
+fn add_parsed(
+    alloc: Global,
+    source: &str,
+    names: &mut Names,
+    units: &mut Vec<Unit>,
+) -> Result<(), Fail>
+    requires { AreNumbered (length names.old) (map tree_of units.old.items) }
+    ensures { OnOk result (AreNumbered (length names.new) (map tree_of units.new.items)) }
+{
+    let unit = parsed(alloc, source, names)?;
+    units.push(unit)?;
+    Ok(())
+}
+
+/// The trees of the prelude's files, and then of these.
+pub fn trees(alloc: Global, files: Files, names: &mut Names) -> Result<Vec<Unit>, Fail>
+    ensures { IfOk result (λ us. AreNumbered (length names.new) (map tree_of us.items)) }
+{
+    let mut units = Vec::new(alloc);
+    add_parsed(alloc, prelude::OBJECT, names, &mut units)?;
+    add_parsed(alloc, prelude::STRING, names, &mut units)?;
+    for (_, text) in files {
+        add_parsed(alloc, text, names, &mut units)?;
+    }
+    Ok(units)
+}
+
+/// The layout of the files whose trees these are.
+pub fn laid_out(alloc: Global, names: &Names, units: &[Unit]) -> Result<Layout, Fail>
+    ensures layout { IfOk result (λ l. l ≡ layout_of names.now (map tree_of units.now)) }
+    ensures folder { OnOk result (IsFolder (map tree_of units.now)) }
+{
+    if !is_folder(units) {
+        return Err(Fail::new("too many names are declared"));
+    }
+    Ok(layout(alloc, names, units)?)
+}
+
+/// The printed name of a scope; a file is printed as its path.
+pub fn title_of(
+    alloc: Global,
+    files: Files,
+    names: &Names,
+    layout: &Layout,
+    s: Scope,
+) -> Result<String, AllocError> {
+    if let Place::File(file) = layout.place(s) {
+        if let Some((path, _)) = files.get((file as usize).saturating_sub(2)) {
+            return String::from_str(alloc, path);
+        }
+    }
+    layout.title(alloc, names, s)
+}
