@@ -1,35 +1,26 @@
 -- What checking the sources of a folder comes to.
 use Rattle.std.specs.List.{Contains}
-use Rattle.std.proofs.lemmas.List.{length-map}
 use Rattle.std.proofs.Common.{◌↔◌, Result, Ok, Err, IfOk, ◌≡◌, ℕ, ◌<◌, ◌≤◌, length, map, List, [], true≢false, ◌⊎◌, inl, inr, refl, sym, ap, ◌∙◌, subst}
 use Rattle.sg_core.specs.declared.phase.Phase.TheVariants.{Running, Ended, Stuck}
 use Rattle.sg_core.specs.Core.{EndedWith, IsPhase}
-use Rattle.sg_base.specs.Graph.{GraphOf}
 use Rattle.sg_query.specs.Query.{KindOf}
 use Rattle.sg_unit.specs.Run.{RunOf}
-use Rattle.jv_diag.specs.Plain.{DiagOf, diag_of}
-use Rattle.jv_instance.specs.declared.datum.JavaDatum.{JavaDatum}
+use Rattle.jv_diag.specs.Plain.{DiagOf}
 use Rattle.jv_layout.specs.Folder.{LayoutOf, layout_of}
 use Rattle.jv_layout.specs.Sizes.{most_types, own_types}
 use Rattle.jv_tree.specs.DeclTree.{UnitTree}
 use Rattle.jv_unit.specs.declared.folder.Folder.{Folder}
 use Rattle.jv_unit.specs.Folder.{FolderOf}
 use Rattle.jv_unit.specs.Kept.{folder_of, IsWhole}
-use Rattle.sc_io.specs.SourceFile.{sources_of}
 use Rattle.sc_io.specs.SourceTree.{FileOf}
-use Rattle.sc_report.specs.Report.{report_text}
 use Rattle.sc_sources.specs.Sources.{Outcome as SourceOutcome, ReadsFolder, faults_from}
-use Rattle.sc_app.specs.declared.outcome.Outcome.{Outcome}
-use Rattle.sc_app.specs.declared.report.Report.{Report}
-use Rattle.sc_app.specs.declared.status.Status.{Status}
-use Rattle.sc_app.specs.Checked.{IsChecked}
 use Rattle.sc_app.specs.Diagnoses.{Diagnoses, HaveTrees, checked, faulty, laid_out, types_declared}
 use Rattle.sc_app.specs.FolderGraph.{IsWhole as IsWhole_graph}
+use Rattle.sc_app.specs.FolderLaw.{last_graph}
 use Rattle.sc_app.specs.FolderReport.{Reports, Rules, checked as checked_rules}
 use Rattle.sc_app.specs.Results.{CameTo}
 use Rattle.sc_app.specs.FolderRun.{JavaCore, IsFolderRun, ruled}
-use Rattle.sc_app.specs.Outcome.{HaveFault, IsOutcomeOf, RanOn}
-use Rattle.sc_app.specs.Statuses.{status_of}
+use Rattle.sc_app.specs.Outcome.{HaveFault, RanOn}
 
 -- a run that is over does not go on
 pub not_running : {D P : Type 0} (r : RunOf D P) → IsPhase r Ended ⊎ IsPhase r Stuck → IsPhase r Running → ⊥
@@ -64,9 +55,9 @@ if_ok : {A E : Type 0} (P Q : A → Type 0) (r : Result A E) → ((x : A) → P 
 if_ok P Q (Ok x) f h = f x h
 if_ok P Q (Err e) f h = tt
 
-module _ (w : FolderOf) (c : JavaCore) (whole : (g : GraphOf JavaDatum) × IsWhole_graph (ruled w) g × ((d : DiagOf) → ((u : ℕ) × (x : List DiagOf) × EndedWith c.log u x × Contains x d) ↔ (Rules (ruled w) g d))) where
+module _ (w : FolderOf) (c : JavaCore) (whole : IsWhole_graph (ruled w) (last_graph c) × ((d : DiagOf) → ((u : ℕ) × (x : List DiagOf) × EndedWith c.log u x × Contains x d) ↔ (Rules (ruled w) (last_graph c) d))) where
   reported : (ds : List DiagOf) → CameTo c ds → Reports (ruled w) ds
-  reported ds came = checked_rules whole.0 whole.1 (λ d. ((λ k. (whole.2 d).0 ((came d).0 k)), (λ k. (came d).1 ((whole.2 d).1 k))))
+  reported ds came = checked_rules (last_graph c) whole.0 (λ d. ((λ k. (whole.1 d).0 ((came d).0 k)), (λ k. (came d).1 ((whole.1 d).1 k))))
 
   pub ended_report : {E : Type 0} (r : Result (List DiagOf) E) → IfOk r (CameTo c) → IfOk r (Reports (ruled w))
   ended_report r h = if_ok (CameTo c) (Reports (ruled w)) r reported h
@@ -82,15 +73,3 @@ module _ (fs : List FileOf) (ds : List DiagOf) (read : (names : List (List ℕ))
 
   pub fault_there : HaveFault fs
   fault_there = (read.0, read.1, read.2, some_fault)
-
--- ---- the report
-
-module _ (fs : List FileOf) (o : Outcome) (is : IsOutcomeOf fs o) where
-  told : (bytes : List ℕ) (status : Status) → bytes ≡ report_text (sources_of o.sources.items) (map diag_of o.diags.items) o.types → status ≡ status_of (length o.diags.items) → IsChecked fs bytes status
-  told bytes status e k =
-      inl (is.found, o.types, is.diagnoses, (map diag_of o.diags.items, is.sorted, e ∙ ap (λ (z : List FileOf). report_text z (map diag_of o.diags.items) o.types) is.sources, k ∙ ap status_of (sym (length-map o.diags.items diag_of))))
-
-  pub checked_report : {E : Type 0} (r : Result Report E) → IfOk r (λ x. x.bytes.items ≡ report_text (sources_of o.sources.items) (map diag_of o.diags.items) o.types) → IfOk r (λ x. x.status ≡ status_of (length o.diags.items))
-      → IfOk r (λ x. IsChecked fs x.bytes.items x.status)
-  checked_report (Ok x) e k = told x.bytes.items x.status e k
-  checked_report (Err y) e k = tt

@@ -231,7 +231,6 @@ ended_runs_report leave stuck w c folder ran ended =
       | inl b ↦ b
       | inr b ↦ let is : IsStuck (run is_wanted same_datum c) = (stuck w c folder ran).1 (s, i, b) in absurd (ended (is.0).0 (is.0).1)
     ] in (
-      (run is_wanted same_datum c).held.graph,
       whole w c folder ran ended left.0 (left.2).0 left.1 (left.2).1 closed,
       λ d. (came_from_rules w c folder ran ended d, rules_came w c folder ran ended d),
     )

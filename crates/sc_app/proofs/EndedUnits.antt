@@ -38,7 +38,7 @@ use Rattle.sg_unit.proofs.Writes.{is_num}
 
 module _ {I R D P : Type 0} where
   -- what a unit was handed it is handed still
-  past_handed : (past : Past I R D P) (last : Option (Op I R D P)) (y : Option (Reply I D P)) (x : Op I R D P × Reply I D P) → Contains past x → Contains (with_last past last y) x
+  pub past_handed : (past : Past I R D P) (last : Option (Op I R D P)) (y : Option (Reply I D P)) (x : Op I R D P × Reply I D P) → Contains past x → Contains (with_last past last y) x
   past_handed past None y x c = c
   past_handed past (Some op) None x c = c
   past_handed past (Some op) (Some y) x c = Contains-append_left past ((op, y) ∷ []) x c
@@ -126,7 +126,7 @@ module _ {I R D P : Type 0} (z : Setting D P) (ok : IsOpening z.opening) (log : 
         (gave_here z ok log run u k.before k.entry k.behind k.split k.own (subst (λ (o : Op I R D P). IsGiven o) (sym k.given) given))
 
   module _ (u : ℕ) (before : Past I R D P) (op : Op I R D P) (came : GaveAfter (trace_of u log).past (trace_of u log).last before op) where
-    in_handed : (x : Op I R D P × Reply I D P) → Contains before x → Contains (handed (trace_of u log)) x
+    pub in_handed : (x : Op I R D P × Reply I D P) → Contains before x → Contains (handed (trace_of u log)) x
     in_handed x c = past_handed (trace_of u log).past (trace_of u log).last (trace_of u log).reply x (before_in (trace_of u log).past (trace_of u log).last before op x came c)
 
     -- what a unit was told before is the answer at the end

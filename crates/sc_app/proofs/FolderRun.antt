@@ -1,9 +1,5 @@
 -- The checkers of a folder can be run over its layout.
 use Rattle.std.proofs.Common.{◌≡◌, ℕ, zero, suc, ◌+◌, ◌<◌, ◌≤◌, ◌^◌, List, [], ◌∷◌, ◌++◌, length, map, slice_get, Some, Result, Ok, Err, IfOk, inl, inr, refl, sym, ap, ◌∙◌, subst, arith}
-use Rattle.std.specs.List.{Contains}
-use Rattle.sg_base.proofs.Finite.{single, nothing_in}
-use Rattle.std.proofs.lemmas.List.Elements.{Contains-append_cases}
-use Rattle.std.proofs.lemmas.List.{map-append}
 use Rattle.sg_query.specs.Query.{KindOf}
 use Rattle.sg_script.specs.Following.{FollowsPlan}
 use Rattle.sg_script.specs.Owing.{OwesEdge, OwesDatum, AsksIn, ComesTo}
@@ -25,17 +21,14 @@ use Rattle.jv_layout.proofs.Linking.{few_scopes, rows_linked}
 use Rattle.jv_layout.proofs.SoundSkeletons.{skeletons_are_sound}
 use Rattle.jv_names.specs.Kinds.{AreKinds}
 use Rattle.jv_names.specs.Replies.{reply_to}
-use Rattle.jv_tree.specs.declared.declaration.Unit.{Unit as Tree}
 use Rattle.jv_tree.specs.DeclTree.{UnitTree, tree_of}
-use Rattle.jv_tree.specs.Numbered.{IsNumbered}
-use Rattle.jv_tree.proofs.Numbers.{unit_stays}
 use Rattle.jv_unit.specs.declared.folder.Folder.{Folder}
 use Rattle.jv_unit.specs.Folder.{FolderOf, IsFolderOf}
 use Rattle.jv_unit.specs.Kept.{IsWhole}
 use Rattle.jv_unit.specs.Plans.{JavaPlan, java_plan}
 use Rattle.jv_unit.specs.Scripts.{JavaUnit, plan_of, AreNewUnits, AreUnitsOf, IsUnit}
 use Rattle.jv_unit.proofs.NewUnits.{units_are_new}
-use Rattle.sc_app.specs.FolderRun.{AreNumbered, FollowsBy, JavaCore, IsFolderRun, same_datum, setting_of_plan}
+use Rattle.sc_app.specs.FolderRun.{AreNumbered, FollowsBy, IsBegun, JavaCore, IsFolderRun, same_datum, setting_of_plan}
 
 module _ (l : LayoutOf) (names : List (List ℕ)) (us : List UnitTree) (layout : l ≡ layout_of names us) (folder : IsFolder us) where
   linked : IsLinked l
@@ -46,22 +39,6 @@ module _ (l : LayoutOf) (names : List (List ℕ)) (us : List UnitTree) (layout :
 
   pub is_folder_of : (kinds : List KindOf) → AreNumbered (length names) us → AreKinds kinds → IsFolderOf (record { layout = l; names = names; files = us; kinds = kinds })
   is_folder_of kinds numbered java = record { layout = layout; linked = linked; few = few; numbered = numbered; kinds = java }
-
--- ---- trees whose identifiers have numbers of names
-
-module _ (m n : ℕ) (us : List UnitTree) (u : UnitTree) (old : AreNumbered m us) (more : m ≤ n) (new : IsNumbered n u) where
-  one_more_numbered : AreNumbered n (us ++ u ∷ [])
-  one_more_numbered v c = elim (Contains-append_cases us (u ∷ []) v c) [
-    | inl k ↦ unit_stays m n more v (old v k)
-    | inr k ↦ subst (IsNumbered n) (sym (single u v k)) new
-  ]
-
-pub pushed_numbered : (m n : ℕ) (ts : List Tree) (t : Tree) (all : List Tree) → AreNumbered m (map tree_of ts) → m ≤ n → IsNumbered n (tree_of t) → all ≡ ts ++ t ∷ [] → AreNumbered n (map tree_of all)
-pushed_numbered m n ts t all old more new e =
-    subst (AreNumbered n) (sym (ap (map tree_of) e ∙ map-append tree_of ts (t ∷ []))) (one_more_numbered m n (map tree_of ts) (tree_of t) old more new)
-
-pub none_numbered : (n : ℕ) (ts : List Tree) → ts ≡ [] → AreNumbered n (map tree_of ts)
-none_numbered n ts e = subst (λ (z : List Tree). AreNumbered n (map tree_of z)) (sym e) (λ v c. absurd (nothing_in v c))
 
 -- ---- the run
 
@@ -108,19 +85,16 @@ if_ok : {A E : Type 0} (P Q : A → Type 0) (r : Result A E) → ((x : A) → P 
 if_ok P Q (Ok x) f h = f x h
 if_ok P Q (Err e) f h = tt
 
-module _ (w : FolderOf) (us : List JavaUnit) (units : AreUnitsOf w us) (old : JavaCore) (o : HeldOf JavaDatum) (kinds : List KindOf) (core : old ≡ record { opening = o; kinds = kinds; log = [] })
-    (begun : o ≡ opened_of (skeleton_of w.layout)) (table : kinds ≡ w.kinds) where
-  begins : old.opening ≡ opened_of (skeleton_of w.layout)
-  begins = ap (λ (k : JavaCore). k.opening) core ∙ begun
+-- a core that was opened, and the folder's units
+pub begun : (w : FolderOf) (us : List JavaUnit) (units : AreUnitsOf w us) (c : JavaCore) (o : HeldOf JavaDatum) (kinds : List KindOf) → c ≡ record { opening = o; kinds = kinds; log = [] } → o ≡ opened_of (skeleton_of w.layout) → kinds ≡ w.kinds → IsBegun w c us
+begun w us units c o kinds core opening table =
+    let begins : c.opening ≡ opened_of (skeleton_of w.layout) = ap (λ (k : JavaCore). k.opening) core ∙ opening in
+    let by_kinds : c.kinds ≡ w.kinds = ap (λ (k : JavaCore). k.kinds) core ∙ table in
+    record { opening = begins; kinds = by_kinds; log = ap (λ (k : JavaCore). k.log) core; units = units; new = rw (begins, by_kinds) (units_are_new w us units) }
 
-  by_kinds : old.kinds ≡ w.kinds
-  by_kinds = ap (λ (k : JavaCore). k.kinds) core ∙ table
-
-  pub has_run : {E : Type 0} (r : Result JavaCore E) → IfOk r (HasRunOf old us) → IfOk r (IsFolderRun w)
-  has_run r h = if_ok (HasRunOf old us) (IsFolderRun w) r (λ c ran. folder_runs w us units old c begins by_kinds ran) h
-
-  pub may_run : AreNewUnits old.opening old.kinds us
-  may_run = rw (begins, by_kinds) (units_are_new w us units)
+-- and what comes of them
+pub begun_runs : {E : Type 0} (w : FolderOf) (us : List JavaUnit) (old : JavaCore) (r : Result JavaCore E) → IsBegun w old us → IfOk r (HasRunOf old us) → IfOk r (IsFolderRun w)
+begun_runs w us old r b h = if_ok (HasRunOf old us) (IsFolderRun w) r (λ c ran. folder_runs w us b.units old c b.opening b.kinds ran) h
 
 -- the opening of a folder is sound
 pub opening_of_folder : (w : Folder) (o : OpeningOf JavaDatum) → IsWhole w → o ≡ skeleton_of w.layout → IsSoundOpening o

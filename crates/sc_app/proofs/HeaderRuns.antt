@@ -1,5 +1,6 @@
 -- The runs of a folder's checkers that are over leave the greatest stratified set of headers, and are stuck exactly where a type is outside it.
-use Rattle.std.proofs.Common.{◌≡◌, List, ◌↔◌, inl, inr, false, sym, subst}
+use Rattle.std.proofs.Common.{◌≡◌, ℕ, ◌+◌, ◌<◌, List, length, ◌↔◌, inl, inr, false, sym, subst, arith}
+use Rattle.std.proofs.lemmas.List.{length-replicate}
 use Rattle.std.specs.List.{Contains}
 use Rattle.sg_base.specs.declared.scope.Scope.{Scope}
 use Rattle.sg_base.specs.Graph.{GraphOf}
@@ -18,7 +19,7 @@ use Rattle.jv_instance.specs.Data.{is_wanted}
 use Rattle.jv_layout.specs.Readers.{types_of}
 use Rattle.jv_unit.specs.Folder.{FolderOf, IsFolderOf}
 use Rattle.sc_app.specs.FolderGraph.{IsSkeleton, headers_of}
-use Rattle.sc_app.specs.FolderLaw.{FolderRunsAreStuckByHeaders, FolderRunsLeaveGreatest, LeavesGreatest, closed_in, roles_of}
+use Rattle.sc_app.specs.FolderLaw.{AsksSignaturesLast, FolderRunsAreStuckByHeaders, FolderRunsAskSignaturesLast, FolderRunsLeaveGreatest, LeavesGreatest, closed_in, roles_of}
 use Rattle.sc_app.specs.FolderRun.{IsFolderRun, JavaCore, ruled, same_datum}
 use Rattle.sc_app.proofs.HeaderOrder.{FolderEntry, folder_asks_last, folder_core, folder_orderly}
 use Rattle.sc_app.proofs.HeaderSetting.{folder_program, folder_quiet, folder_setting, is_setting}
@@ -55,6 +56,9 @@ module _ (w : FolderOf) (h : IsFolderOf w) (log : List FolderEntry) (r : IsFolde
       stuck_where_headers_wait Java (List DiagOf) (Query JavaPred) JavaDatum JavaPred (headers_of (ruled w) g.0) (folder_setting w) (roles_of w.layout) log (folder_run_orderly g.0 g.1)
       (folder_asks_last w h g.0 g.1 log r.core.runs r.follows)
 
+  asks_last : (g : GraphOf JavaDatum) → IsSkeleton (ruled w) g → (u : ℕ) → u < length w.layout.files + length w.layout.types → AsksSignaturesLast w (folder_core w log) g u
+  asks_last g k u few = folder_asks_last w h g k log r.core.runs r.follows u (omega (arith, few, length-replicate {A = ℕ} (length w.layout.files + length w.layout.types) 0))
+
 pub runs_leave_greatest : FolderRunsLeaveGreatest
 runs_leave_greatest w c h r =
     let same = same_core w c r in
@@ -65,3 +69,8 @@ runs_are_stuck_by_headers w c h r =
     let same = same_core w c r in
     subst (λ (d : JavaCore). (IsPhase (run is_wanted same_datum d) Stuck) ↔ ((s : Scope) × Contains (types_of w.layout) s × (closed_in d s ≡ false))) same
     (sticks w h c.log (subst (IsFolderRun w) (sym same) r))
+
+pub runs_ask_signatures_last : FolderRunsAskSignaturesLast
+runs_ask_signatures_last w c g h r k u few =
+    let same = same_core w c r in
+    subst (λ (d : JavaCore). AsksSignaturesLast w d g u) same (asks_last w h c.log (subst (IsFolderRun w) (sym same) r) g k u few)

@@ -157,7 +157,7 @@ module _ (w : FolderOf) where
           agree
           ∙ ap (λ (k : GraphOf JavaDatum). record { graph = k; open_rows = map (λ c. (c, p.super_label)) (filter (λ c. not (in_set' c)) p.types); unset = p.signatures }) (sym (ap (λ (s : State JavaDatum). s.graph) agree) ∙ one_graph)
 
-    whole_is_one : (g h : GraphOf JavaDatum) → IsWhole w g → IsWhole w h → g ≡ h
+    pub whole_is_one : (g h : GraphOf JavaDatum) → IsWhole w g → IsWhole w h → g ≡ h
     whole_is_one g h a b =
         let skeleton : b.skeleton ≡ a.skeleton = skeleton_is_one b.skeleton a.skeleton b.is_skeleton a.is_skeleton in
         let greatest : IsGreatest (headers_of w a.skeleton) every_type b.row = subst (λ (k : GraphOf JavaDatum). IsGreatest (headers_of w k) every_type b.row) skeleton b.greatest in
@@ -166,7 +166,7 @@ module _ (w : FolderOf) where
         signatures_are_one (graph_with (headers_of w a.skeleton) every_type a.row) g h a.signatures (subst (λ (k : GraphOf JavaDatum). AddsSignatures w k h) one there)
 
     -- not all types are outside of none
-    never_both : (g h : GraphOf JavaDatum) → IsWhole w g → (in_set : Scope → Bool) (row : Scope → List Scope) → IsSkeleton w h → IsGreatest (headers_of w h) in_set row → (c : Scope) → Contains (types_of w.layout) c → in_set c ≡ false → ⊥
+    pub never_both : (g h : GraphOf JavaDatum) → IsWhole w g → (in_set : Scope → Bool) (row : Scope → List Scope) → IsSkeleton w h → IsGreatest (headers_of w h) in_set row → (c : Scope) → Contains (types_of w.layout) c → in_set c ≡ false → ⊥
     never_both g h a in_set row k b c i out =
         let skeleton : h ≡ a.skeleton = skeleton_is_one h a.skeleton k a.is_skeleton in
         let greatest : IsGreatest (headers_of w a.skeleton) in_set row = subst (λ (k : GraphOf JavaDatum). IsGreatest (headers_of w k) in_set row) skeleton b in

@@ -2,15 +2,18 @@
 use Rattle.std.specs.Prelude.{◌≡◌, ◌⊎◌, ℕ, List, Option, IfSome}
 use Rattle.sc_io.specs.Sink.{AddsAll}
 use Rattle.sc_io.specs.SourceTree.{FileOf}
+use Rattle.sc_app.specs.declared.command.Command.{Command}
 use Rattle.sc_app.specs.declared.status.Status.{Status}
 use Rattle.sc_app.specs.declared.status.Status.TheVariants.{Limit, OutOfMemory}
 use Rattle.sc_app.specs.declared.status.Which.{Which}
+use Rattle.sc_app.specs.Command.{Asks}
 use Rattle.sc_app.specs.Statuses.{IsReportStatus}
-use Rattle.sc_app.specs.Told.{Checks, Told, limit_line}
+use Rattle.sc_app.specs.Told.{Checks, Told, files_for, limit_line}
 
--- the sources of a folder pass a limit, and its line was written
-abbrev pub WritesLimit : Which → List FileOf → Option (List ℕ) → Option (List ℕ) → Type 0
-WritesLimit which fs before after = Checks fs (limit_line which) (Limit which) × AddsAll before (limit_line which) after
+-- the sources of the files that the command looks at for which the words ask pass a limit, and its line was written
+abbrev pub WritesLimit : List (List ℕ) → Which → List FileOf → Option (List ℕ) → Option (List ℕ) → Type 0
+WritesLimit words which fs before after =
+    (c : Command) × (workers : Option ℕ) × Asks words c workers × Checks c (files_for c fs) (limit_line which) (Limit which) × AddsAll before (limit_line which) after
 
 -- the words and the files tell this status
 abbrev pub TellsStatus : List (List ℕ) → Status → List FileOf → Type 0

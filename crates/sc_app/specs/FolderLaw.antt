@@ -5,13 +5,14 @@ use Rattle.sg_base.specs.declared.scope.Scope.{Scope}
 use Rattle.sg_base.specs.Graph.{GraphOf}
 use Rattle.sg_core.specs.declared.phase.Phase.TheVariants.{Ended, Stuck}
 use Rattle.sg_core.specs.Core.{EndedWith, IsPhase, run, setting}
+use Rattle.sg_headers.specs.Orderly.{MayAskSignatures}
 use Rattle.sg_headers.specs.Outcome.{Leaves, is_closed}
 use Rattle.sg_headers.specs.Setting.{Roles}
 use Rattle.sg_query.specs.declared.query.Query.{Query}
 use Rattle.sg_reading.specs.Reading.{Needs}
 use Rattle.sg_state.specs.declared.need.Need.TheVariants.{Row}
 use Rattle.sg_strata.specs.Program.{state_with}
-use Rattle.sg_unit.specs.Orderly.{WasTold}
+use Rattle.sg_unit.specs.Orderly.{IsOrderly, WasTold}
 use Rattle.sg_unit.specs.Own.{own}
 use Rattle.sg_unit.specs.Trace.{Past, told}
 use Rattle.sg_unit.specs.Waiting.{WaitsOn}
@@ -55,11 +56,26 @@ FolderRunsAreStuckByHeaders =
     (w : FolderOf) (c : JavaCore) → IsFolderOf w → IsFolderRun w c
     → (IsPhase (run is_wanted same_datum c) Stuck) ↔ ((s : Scope) × Contains (types_of w.layout) s × (closed_in c s ≡ false))
 
--- a run that has ended came to the diagnostics of the rules in the whole graph
+-- the unit with a number asks a query that looks at signatures only when all signatures that it holds are set
+abbrev pub AsksSignaturesLast : FolderOf → JavaCore → GraphOf JavaDatum → ℕ → Type 0
+AsksSignaturesLast w c g u =
+    IsOrderly (MayAskSignatures (headers_of (ruled w) g) (setting is_wanted same_datum c) u) (told (own u c.log)).past (told (own u c.log)).last
+
+-- so do all units of a folder, over the skeleton
+abbrev pub FolderRunsAskSignaturesLast : Type 0
+FolderRunsAskSignaturesLast =
+    (w : FolderOf) (c : JavaCore) (g : GraphOf JavaDatum) → IsFolderOf w → IsFolderRun w c → IsSkeleton (ruled w) g
+    → (u : ℕ) → u < length w.layout.files + length w.layout.types → AsksSignaturesLast w c g u
+
+-- the graph at the end of a run
+abbrev pub last_graph : JavaCore → GraphOf JavaDatum
+last_graph c = (run is_wanted same_datum c).held.graph
+
+-- a run that has ended left the whole graph, and came to the diagnostics of the rules in it
 abbrev pub EndedRunsReport : Type 0
 EndedRunsReport =
     (w : FolderOf) (c : JavaCore) → IsFolderOf w → IsFolderRun w c → IsPhase (run is_wanted same_datum c) Ended
-    → (g : GraphOf JavaDatum) × IsWhole (ruled w) g × ((d : DiagOf) → ((u : ℕ) × (x : List DiagOf) × EndedWith c.log u x × Contains x d) ↔ (Rules (ruled w) g d))
+    → IsWhole (ruled w) (last_graph c) × ((d : DiagOf) → ((u : ℕ) × (x : List DiagOf) × EndedWith c.log u x × Contains x d) ↔ (Rules (ruled w) (last_graph c) d))
 
 -- what the unit of the type with a number gave and was told
 abbrev pub past_of : FolderOf → JavaCore → ℕ → Past Java (List DiagOf) JavaDatum JavaPred

@@ -5,7 +5,6 @@ use Rattle.sg_core.specs.declared.phase.Phase.TheVariants.{Ended, Stuck}
 use Rattle.sg_core.specs.Core.{CoreOf, IsCore, IsPhase, run}
 use Rattle.sg_query.specs.declared.answer.Answer.{Answer}
 use Rattle.sg_query.specs.declared.query.Query.{Query}
-use Rattle.sg_query.specs.Query.{KindOf}
 use Rattle.sg_script.specs.declared.write.Write.{Write}
 use Rattle.sg_script.specs.Following.{FollowsPlan}
 use Rattle.sg_script.specs.Owing.{OwesEdge, OwesDatum, AsksIn, ComesTo}
@@ -25,6 +24,7 @@ use Rattle.jv_tree.specs.DeclTree.{UnitTree}
 use Rattle.jv_tree.specs.Numbered.{IsNumbered}
 use Rattle.jv_unit.specs.Folder.{FolderOf}
 use Rattle.jv_unit.specs.Plans.{JavaPlan, java_plan}
+use Rattle.jv_unit.specs.Scripts.{JavaUnit, AreNewUnits, AreUnitsOf}
 
 -- each identifier of the files has the number of one of so many names
 abbrev pub AreNumbered : ℕ → List UnitTree → Type 0
@@ -50,6 +50,14 @@ pub record FollowsBy (w : FolderOf) (c : JavaCore) (u : ℕ) : Type 0 where
   pub stage : ℕ
   pub ended : Bool
   pub follows : FollowsPlan {I = Java} (java_plan w u) reply asked pending stage ended (told (own u c.log)).past (told (own u c.log)).last
+
+-- a core stands at the opening of a folder's layout, and these are the folder's units, which have given nothing yet
+pub record IsBegun (w : FolderOf) (c : JavaCore) (us : List JavaUnit) : Type 0 where
+  pub opening : c.opening ≡ opened_of (skeleton_of w.layout)
+  pub kinds : c.kinds ≡ w.kinds
+  pub log : c.log ≡ []
+  pub units : AreUnitsOf w us
+  pub new : AreNewUnits c.opening c.kinds us
 
 -- a core whose run is over: it began with the opening of a folder's layout and its kinds, it is legal, it has ended or is stuck, and each unit of the
 -- folder follows its plan by its entries, and is honest by them

@@ -6,6 +6,8 @@ use Rattle.sg_base.specs.List.{IsRising}
 use Rattle.sc_io.specs.SourceFile.{sources_of}
 use Rattle.sc_io.specs.SourceTree.{FileOf, HasDistinctPaths, ListsSources}
 use Rattle.sc_sources.specs.Read.{AreWithinLimits, most_files}
+use Rattle.sc_app.specs.declared.command.Command.{Command}
+use Rattle.sc_app.specs.declared.command.Command.TheVariants.{Check, Answers, Graph, Gen}
 use Rattle.sc_app.specs.declared.gather.Gathered.{Gathered}
 use Rattle.sc_app.specs.declared.gather.Gathered.TheVariants.{Sources, Passed}
 use Rattle.sc_app.specs.declared.status.Which.{Which}
@@ -31,3 +33,17 @@ IsGathered fs (Passed which) = (ss : List FileOf) × AreSources fs ss × Passes 
 abbrev pub StaysWithin : Gathered → Type 0
 StaysWithin (Sources v) = AreWithinLimits (sources_of v.items)
 StaysWithin (Passed which) = Unit {0}
+
+-- a project that is made has at most 1,000 classes
+abbrev pub MakesFew : Command → Type 0
+MakesFew Check = Unit {0}
+MakesFew Answers = Unit {0}
+MakesFew Graph = Unit {0}
+MakesFew (Gen n) = n ≤ 1000
+
+-- a command makes its own project, for which no tree is read
+abbrev pub MakesProject : Command → Type 0
+MakesProject Check = ⊥
+MakesProject Answers = ⊥
+MakesProject Graph = ⊥
+MakesProject (Gen n) = Unit {0}

@@ -3,6 +3,7 @@ pub mod Checked
 pub mod CircularLines
 pub mod Command
 pub mod Diagnoses
+pub mod EveryOrder
 pub mod FolderGraph
 pub mod FolderLaw
 pub mod FolderReport
@@ -11,7 +12,10 @@ pub mod Gathered
 pub mod Heard
 pub mod Laws
 pub mod Lines
+pub mod Listing
+pub mod NamedTypes
 pub mod Outcome
+pub mod Ran
 pub mod Results
 pub mod Sourced
 pub mod Statuses

@@ -7,9 +7,13 @@ use Rattle.sc_app.specs.declared.status.Status.{Status}
 use Rattle.sc_app.specs.declared.status.Status.TheVariants.{Clean, Found, Usage, ReadFault, WriteFault, Limit, OutOfMemory}
 use Rattle.sc_app.specs.declared.status.Which.{Which}
 use Rattle.sc_app.specs.declared.status.Which.TheVariants.{Files, FileBytes, TotalBytes, Types}
-use Rattle.sc_app.specs.Command.{IsCheck}
+use Rattle.sc_gen.specs.Project.{project_files}
+use Rattle.sc_app.specs.declared.command.Command.{Command}
+use Rattle.sc_app.specs.declared.command.Command.TheVariants.{Check, Answers, Graph, Gen}
+use Rattle.sc_app.specs.Command.{Asks, IsCommand}
 use Rattle.sc_app.specs.Diagnoses.{DeclareTooMany, IsReport}
 use Rattle.sc_app.specs.Lines.{line}
+use Rattle.sc_app.specs.Listing.{Lists, ListsNothing}
 use Rattle.sc_app.specs.Sourced.{AreSources, passed_from}
 
 -- the line of a limit that is passed
@@ -19,17 +23,29 @@ limit_line FileBytes = line (codes "limit file bytes")
 limit_line TotalBytes = line (codes "limit total bytes")
 limit_line Types = line (codes "limit types")
 
--- the report on a folder, or the limit that it passes first, with the status
-pub data Checks (fs : List FileOf) : List ℕ → Status → Type 0 where
-  many_files : (ss : List FileOf) → AreSources fs ss → most_files < length ss → Checks fs (limit_line Files) (Limit Files)
-  many_bytes : (ss : List FileOf) (which : Which) → AreSources fs ss → length ss ≤ most_files → passed_from 0 ss ≡ Some which → Checks fs (limit_line which) (Limit which)
-  many_types : (ss : List FileOf) → AreSources fs ss → length ss ≤ most_files → passed_from 0 ss ≡ None → DeclareTooMany ss → Checks fs (limit_line Types) (Limit Types)
-  report : (ss : List FileOf) (bytes : List ℕ) (status : Status) → AreSources fs ss → length ss ≤ most_files → passed_from 0 ss ≡ None → IsReport ss bytes status → Checks fs bytes status
+-- the files that a command looks at: those of the folder, or those of the project that is made
+abbrev pub files_for : Command → List FileOf → List FileOf
+files_for Check fs = fs
+files_for Answers fs = fs
+files_for Graph fs = fs
+files_for (Gen n) fs = project_files n
+
+-- what a command tells of sources, with the status of their report: what it lists of them, and else the report
+pub data Tells (c : Command) (ss : List FileOf) (bytes : List ℕ) (status : Status) : Type 0 where
+  reported : ListsNothing ss c → IsReport ss bytes status → Tells c ss bytes status
+  listed : (report : List ℕ) → Lists ss c bytes → IsReport ss report status → Tells c ss bytes status
+
+-- what a command tells of a folder, or the limit that it passes first, with the status
+pub data Checks (c : Command) (fs : List FileOf) : List ℕ → Status → Type 0 where
+  many_files : (ss : List FileOf) → AreSources fs ss → most_files < length ss → Checks c fs (limit_line Files) (Limit Files)
+  many_bytes : (ss : List FileOf) (which : Which) → AreSources fs ss → length ss ≤ most_files → passed_from 0 ss ≡ Some which → Checks c fs (limit_line which) (Limit which)
+  many_types : (ss : List FileOf) → AreSources fs ss → length ss ≤ most_files → passed_from 0 ss ≡ None → DeclareTooMany ss → Checks c fs (limit_line Types) (Limit Types)
+  tells : (ss : List FileOf) (bytes : List ℕ) (status : Status) → AreSources fs ss → length ss ≤ most_files → passed_from 0 ss ≡ None → Tells c ss bytes status → Checks c fs bytes status
 
 -- the bytes that the words and the files tell, and the status
 pub data Told (words : List (List ℕ)) (fs : List FileOf) : List ℕ → Status → Type 0 where
-  no_command : (IsCheck words → ⊥) → Told words fs (line (codes "usage")) Usage
-  check : (bytes : List ℕ) (status : Status) → IsCheck words → Checks fs bytes status → Told words fs bytes status
+  no_command : (IsCommand words → ⊥) → Told words fs (line (codes "usage")) Usage
+  command : (c : Command) (workers : Option ℕ) (bytes : List ℕ) (status : Status) → Asks words c workers → Checks c (files_for c fs) bytes status → Told words fs bytes status
 
 -- a run with this status wrote all bytes that are told
 abbrev pub WritesAll : List (List ℕ) → List FileOf → Status → Option (List ℕ) → Option (List ℕ) → Type 0

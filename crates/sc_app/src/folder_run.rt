@@ -1,24 +1,27 @@
-//! The run of a folder's checkers on one thread.
+//! The run of a folder's checkers.
 
-ghost use Rattle.std.specs.Prelude.{◌≡◌, IfOk, length, map};
+ghost use Rattle.std.specs.Prelude.{◌≡◌, ◌≤◌, IfOk, length, map};
 ghost use Rattle.std.specs.Arc.{arc_value};
 ghost use Rattle.jv_layout.specs.Folder.{layout_of};
 ghost use Rattle.jv_layout.specs.Sizes.{IsFolder};
 ghost use Rattle.jv_tree.specs.DeclTree.{tree_of};
 ghost use Rattle.jv_unit.specs.Kept.{folder_of, IsWhole};
-ghost use Rattle.sc_app.specs.FolderRun.{AreNumbered, IsFolderRun};
+ghost use Rattle.sc_app.specs.FolderRun.{AreNumbered, IsBegun, IsFolderRun};
 
+use crate::followers::run_followers;
 use jv_diag::DiagList;
 use jv_instance::Java;
 use jv_layout::Layout;
 use jv_names::java_kinds;
 use jv_tree::{Names, Unit};
-use jv_unit::{Folder, JavaUnit, java_units};
+use jv_unit::{Folder, JavaScript, JavaUnit, java_units};
 use sg_core::Core;
 use sg_query::KindTable;
 use sg_serial::run_serial;
+use sg_unit::Gate;
 use std::alloc::{AllocError, Global};
-use std::sync::Arc;
+use std::sync::{Arc, Wait};
+use std::thread::Threads;
 
 /// A folder that its checkers share, and the table of the kinds of their queries.
 #[derive(Drop)]
@@ -48,9 +51,66 @@ pub(crate) fn share_folder(
     })
 }
 
-/// Runs the checkers of a folder on one thread until none can go on: first each number of `order` steps that unit, and then the
-/// least that runs. The core that is answered has ended, or each of its live units waits.
-pub(crate) fn run_folder(
+/// The checkers of a folder, which have given nothing yet, and a core at the opening of the folder's layout.
+#[derive(Drop)]
+pub(crate) struct Begun {
+    core: Core<Java, DiagList>,
+    units: Vec<JavaUnit>,
+}
+
+/// What the run of a folder's checkers begins with.
+fn begin(alloc: Global, folder: &Arc<Folder, Global>, kinds: KindTable) -> Result<Begun, AllocError>
+    requires whole { IsWhole (arc_value folder.now) }
+    requires kinds { kinds ≡ (folder_of (arc_value folder.now)).kinds }
+    ensures { IfOk result (λ b. IsBegun (folder_of (arc_value folder.now)) b.core b.units.items) }
+{
+    let opening = folder.layout().opening(alloc)?;
+    let units = java_units(alloc, folder)?;
+    let core = Core::<Java, DiagList>::open(alloc, opening, kinds)?;
+    Ok(Begun { core, units })
+}
+
+/// How many checkers the prelude has: of its two files, and of its two types.
+const OF_PRELUDE: usize = 4;
+
+/// How many of so many workers have something to do, at least one: no more than one for each two checkers besides those of the prelude,
+/// which have next to nothing to do. To start a thread takes longer than a small checker does.
+fn busy_workers(workers: u32, checkers: usize) -> u32
+    ensures { 1 ≤ result }
+{
+    let own = checkers.saturating_sub(OF_PRELUDE) / 2;
+    if own == 0 || workers == 0 {
+        return 1;
+    }
+    if own < workers as usize {
+        own as u32
+    } else {
+        workers
+    }
+}
+
+/// Runs the checkers of a folder in so many threads, at least one, until none can go on. The core that is answered has ended, or each
+/// of its live units waits.
+pub(crate) fn run_folder<R: Threads + Wait + Sync, G: Gate>(
+    rt: &R,
+    alloc: Global,
+    folder: &Arc<Folder, Global>,
+    kinds: KindTable,
+    workers: u32,
+    gate: &G,
+) -> Result<Core<Java, DiagList>, AllocError>
+    requires whole { IsWhole (arc_value folder.now) }
+    requires kinds { kinds ≡ (folder_of (arc_value folder.now)).kinds }
+    ensures { IfOk result (IsFolderRun (folder_of (arc_value folder.now))) }
+{
+    let begun = begin(alloc, folder, kinds)?;
+    let workers = busy_workers(workers, begun.units.len());
+    run_followers::<JavaScript, G, R>(rt, alloc, begun.core, begun.units, workers, gate)
+}
+
+/// Runs the checkers of a folder on the caller's thread until none can go on: first each number of `order` makes one step of that checker,
+/// and then the least that can go on steps. The core that is answered has ended, or each of its live units waits.
+pub(crate) fn run_in_order(
     alloc: Global,
     folder: &Arc<Folder, Global>,
     kinds: KindTable,
@@ -60,8 +120,6 @@ pub(crate) fn run_folder(
     requires kinds { kinds ≡ (folder_of (arc_value folder.now)).kinds }
     ensures { IfOk result (IsFolderRun (folder_of (arc_value folder.now))) }
 {
-    let opening = folder.layout().opening(alloc)?;
-    let units = java_units(alloc, folder)?;
-    let core = Core::<Java, DiagList>::open(alloc, opening, kinds)?;
-    run_serial::<JavaUnit>(alloc, core, units, order)
+    let begun = begin(alloc, folder, kinds)?;
+    run_serial::<JavaUnit>(alloc, begun.core, begun.units, order)
 }

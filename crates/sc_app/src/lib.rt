@@ -1,37 +1,33 @@
-//! The top call: it reads the words and the tree, and writes the report.
+//! The top call: it reads the words and the tree, and writes the report, or what is listed in its place.
 //!
 //! What the words and the files of a folder determine stands in `specs/Told.antt`; the contract of `run` says that
 //! these bytes are written, with that status, and when each fault comes.
 #![tactic(auto)]
 
+mod asked;
 mod check;
 mod circular;
 mod command;
+mod crew;
 pub mod folder_laws;
 mod folder_run;
-#[cfg(test)]
-mod folder_run_tests;
+mod followers;
 mod gather;
-#[cfg(test)]
-mod header_tests;
 mod heard;
+mod in_order;
 pub mod laws;
-#[cfg(test)]
-mod layout_tests;
-#[cfg(test)]
-mod member_tests;
 mod outcome;
 mod project;
+mod ran;
 mod report;
 mod results;
-#[cfg(test)]
-mod sources;
+mod showing;
 mod status;
-#[cfg(test)]
-mod tests;
 mod top_call;
+mod workers;
 
 pub use outcome::Outcome;
-pub use project::{ProjectFault, check_project};
+pub use project::{ProjectFault, check_gated, check_in_order, check_project};
+pub use ran::Ran;
 pub use status::{Status, Which};
-pub use top_call::run;
+pub use top_call::{run, run_gated};

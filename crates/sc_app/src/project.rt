@@ -14,9 +14,12 @@ ghost use Rattle.sc_app.specs.FolderRun.{IsFolderRun, ruled};
 ghost use Rattle.sc_app.specs.Outcome.{IsOutcomeOf};
 
 use crate::circular::circular_lines;
-use crate::folder_run::{Shared, run_folder, share_folder};
+use crate::crew::Crew;
+use crate::folder_run::{Shared, share_folder};
+use crate::in_order::InOrder;
 use crate::outcome::Outcome;
 use crate::results::ended_diags;
+use crate::workers::Workers;
 use jv_diag::DiagList;
 use jv_instance::Java;
 use jv_layout::{Layout, LayoutFault, layout};
@@ -27,7 +30,10 @@ use sc_report::sorted_diags;
 use sc_sources::{Sources, read_sources};
 use sg_base::Scope;
 use sg_core::{Core, Phase};
+use sg_unit::{Gate, NoGate};
 use std::alloc::{AllocError, Global};
+use std::sync::Wait;
+use std::thread::Threads;
 
 /// Why a project cannot be checked.
 #[derive(Clone, Copy, Debug, PartialEq, Eq)]
@@ -38,11 +44,68 @@ pub enum ProjectFault {
     OutOfMemory,
 }
 
-/// Checks the sources of a folder: at most 4,096 files of at most 1 MiB each and 4 MiB together, in rising order of their paths. The
-/// outcome is the report of the rules, whatever the order of the checkers' steps. Reading takes time linear in the sources, as is
-/// expected of a hash; what the checkers take is that of their queries.
-pub fn check_project(alloc: Global, files: Vec<SourceFile>) -> Result<Outcome, ProjectFault>
-    requires { AreWithinLimits (sources_of files.items) }
+/// Checks the sources of a folder, as `check_gated` does, with nobody told of the checkers' steps.
+pub fn check_project<R: Threads + Wait + Sync>(
+    rt: &R,
+    alloc: Global,
+    files: Vec<SourceFile>,
+    workers: u32,
+) -> Result<Outcome, ProjectFault>
+    requires within { AreWithinLimits (sources_of files.items) }
+    requires workers { 1 ≤ workers }
+    ensures outcome { IfOk result (IsOutcomeOf (sources_of files.items)) }
+    ensures fault { IfErr result (λ e. e ≡ ProjectFault.TooManyTypes → DeclareTooMany (sources_of files.items)) }
+{
+    check_gated(rt, alloc, files, workers, &NoGate)
+}
+
+/// Checks the sources of a folder: at most 4,096 files of at most 1 MiB each and 4 MiB together, in rising order of their paths. So
+/// many workers run its checkers, or one for each two checkers beside the prelude's where those are fewer; the gate is told of each step of a checker. The
+/// outcome is the report of the rules, whatever the number of workers and the order of their steps. A worker's thread that cannot be
+/// started is none: the caller's does its work. It may wait for the other workers. The caller's thread needs a stack of
+/// `jv_parse::PARSE_STACK` bytes for the deepest sources.
+///
+/// Reading takes time linear in the sources, as is expected of a hash; what the checkers take is that of their queries. Where a reply is
+/// missing a checker goes on with what asked for it.
+pub fn check_gated<R: Threads + Wait + Sync, G: Gate>(
+    rt: &R,
+    alloc: Global,
+    files: Vec<SourceFile>,
+    workers: u32,
+    gate: &G,
+) -> Result<Outcome, ProjectFault>
+    requires within { AreWithinLimits (sources_of files.items) }
+    requires workers { 1 ≤ workers }
+    ensures outcome { IfOk result (IsOutcomeOf (sources_of files.items)) }
+    ensures fault { IfErr result (λ e. e ≡ ProjectFault.TooManyTypes → DeclareTooMany (sources_of files.items)) }
+{
+    let crew = Workers { rt, workers, gate };
+    check_sources(&crew, alloc, files)
+}
+
+/// Checks the sources of a folder, as `check_project` does, on the caller's thread alone: first each number in `order` makes one step of
+/// that checker, and is passed by where the checker has ended or waits, or where none has it; and then the least that can go on
+/// steps, as long as there is one. The checkers of the files come first, the prelude's two before them, and then those of the types.
+/// The outcome is the report of the rules, whatever the order.
+pub fn check_in_order(
+    alloc: Global,
+    files: Vec<SourceFile>,
+    order: &[u32],
+) -> Result<Outcome, ProjectFault>
+    requires within { AreWithinLimits (sources_of files.items) }
+    ensures outcome { IfOk result (IsOutcomeOf (sources_of files.items)) }
+    ensures fault { IfErr result (λ e. e ≡ ProjectFault.TooManyTypes → DeclareTooMany (sources_of files.items)) }
+{
+    check_sources(&InOrder { order }, alloc, files)
+}
+
+/// Checks the sources of a folder by a crew.
+fn check_sources<C: Crew>(
+    crew: &C,
+    alloc: Global,
+    files: Vec<SourceFile>,
+) -> Result<Outcome, ProjectFault>
+    requires within { AreWithinLimits (sources_of files.items) }
     ensures outcome { IfOk result (IsOutcomeOf (sources_of files.items)) }
     ensures fault { IfErr result (λ e. e ≡ ProjectFault.TooManyTypes → DeclareTooMany (sources_of files.items)) }
 {
@@ -51,7 +114,7 @@ pub fn check_project(alloc: Global, files: Vec<SourceFile>) -> Result<Outcome, P
     };
     match sources {
         Sources::Faults(faults) => Ok(faulty(files, faults)),
-        Sources::Trees { names, units } => check_read(alloc, files, names, units),
+        Sources::Trees { names, units } => { check_read(crew, alloc, files, names, units) }
     }
 }
 
@@ -72,7 +135,8 @@ fn faulty(files: Vec<SourceFile>, faults: DiagList) -> Outcome
 }
 
 /// What files come to that have trees.
-fn check_read(
+fn check_read<C: Crew>(
+    crew: &C,
     alloc: Global,
     files: Vec<SourceFile>,
     names: Names,
@@ -84,7 +148,7 @@ fn check_read(
     ensures fault { IfErr result (λ e. e ≡ ProjectFault.TooManyTypes → DeclareTooMany (sources_of files.items)) }
 {
     match layout(alloc, &names, units.as_slice()) {
-        Ok(layout) => match check_trees(alloc, files, layout, names, units) {
+        Ok(layout) => match check_trees(crew, alloc, files, layout, names, units) {
             Ok(outcome) => Ok(outcome),
             Err(_) => Err(ProjectFault::OutOfMemory),
         },
@@ -94,7 +158,8 @@ fn check_read(
 }
 
 /// Checks the trees of a folder's sources.
-fn check_trees(
+fn check_trees<C: Crew>(
+    crew: &C,
     alloc: Global,
     files: Vec<SourceFile>,
     layout: Layout,
@@ -109,7 +174,7 @@ fn check_trees(
 {
     let types = own_types(&layout);
     let Shared { folder, kinds } = share_folder(alloc, layout, names, units)?;
-    let core = run_folder(alloc, &folder, kinds, &[])?;
+    let core = crew.run_folder(alloc, &folder, kinds)?;
     let diags = run_diags(alloc, &folder, &core)?;
     Ok(Outcome {
         diags: sorted_diags(diags.into_vec()),

@@ -5,5 +5,6 @@ pub mod Sink
 pub mod FileList
 pub mod MemTree
 pub mod MemSink
+pub mod CutSink
 pub mod DirTree
 pub mod Walk

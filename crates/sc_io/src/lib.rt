@@ -5,6 +5,7 @@
 #![tactic(auto)]
 
 mod content;
+mod cut_sink;
 mod dir_tree;
 mod fault;
 mod file_list;
@@ -20,6 +21,7 @@ mod std_sink;
 mod walk;
 
 pub use content::Content;
+pub use cut_sink::CutSink;
 pub use dir_tree::DirTree;
 pub use fault::{SinkFault, TreeFault};
 pub use mem_sink::MemSink;

@@ -3,8 +3,8 @@ ghost use Rattle.sc_io.specs.FileList.{files_of};
 ghost use Rattle.sc_io.specs.SourceTree.{HasDistinctPaths};
 
 use crate::{
-    Content, DirTree, MemSink, MemTree, PlainSink, PlainTree, Sink, SinkFault, SourceTree, StdSink,
-    TreeFault,
+    Content, CutSink, DirTree, MemSink, MemTree, PlainSink, PlainTree, Sink, SinkFault, SourceTree,
+    StdSink, TreeFault,
 };
 use std::alloc::{AllocError, Global};
 use std::cell::Cell;
@@ -124,6 +124,29 @@ fn sinks_take_what_fits(rt: HostRuntime) -> Result<(), Fail> {
         let mut sink = MemSink::new(alloc, Some(room));
         let mut seen = String::new(alloc);
         seen.push(put_mark(sink.put(b"hello")))?;
+        assert_eq!(rt; seen.as_str(), want);
+        assert_eq!(rt; sink.taken(), written.as_bytes());
+    }
+    Ok(())
+}
+
+#[test]
+fn a_cut_put_takes_a_front_and_fails(rt: HostRuntime) -> Result<(), Fail> {
+    let alloc = rt.alloc();
+    // Cuts, what becomes of three puts, and what is written in all.
+    let rows: [(&[(u64, u64)], &str, &str); 5] = [
+        (&[], "...", "onetwothree"),
+        (&[(1, 0)], ".F.", "onethree"),
+        (&[(0, 2), (2, 9)], "F.F", "ontwothree"),
+        (&[(1, 1), (1, 2)], ".F.", "onetthree"),
+        (&[(3, 0)], "...", "onetwothree"),
+    ];
+    for (cuts, want, written) in rows {
+        let mut sink = CutSink::new(alloc, Vec::from_slice(alloc, cuts)?);
+        let mut seen = String::new(alloc);
+        for piece in ["one", "two", "three"] {
+            seen.push(put_mark(sink.put(piece.as_bytes())))?;
+        }
         assert_eq!(rt; seen.as_str(), want);
         assert_eq!(rt; sink.taken(), written.as_bytes());
     }

@@ -1,20 +1,16 @@
-use Rattle.std.proofs.Common.{◌≡◌, ap, ◌∙◌, sym}
+use denote.Exit.{no}
+use denote.Param.Send.{param_send, arg_send}
 use Rattle.std.specs.Arc.{arc_value}
-use Rattle.sg_state.specs.Opening.{opening_of, opened_of}
-use Rattle.jv_layout.specs.Skeleton.{skeleton_of}
 use Rattle.jv_unit.specs.Kept.{folder_of}
-use Rattle.sc_app.proofs.FolderRun.{has_run, may_run, opening_of_folder}
+use Rattle.sc_app.proofs.Sending.{script_send}
+use Rattle.sc_app.proofs.FolderRun.{begun_runs}
 use Rattle.sc_app.proofs.folder_run.run_folder.Goals as goal
 
-pub open-requires : goal.open-requires
-open-requires c = record { sound = opening_of_folder (arc_value c.args.folder.now) (opening_of c.in_ok-opening.opening) c.requires.whole (c.in_ok-opening.ensures ∙ ap skeleton_of (c.layout.ensures ∙ ap (λ w. w.layout) c.deref.ensures)) }
+pub run_followers-requires-send-S : goal.run_followers-requires-send-S
+run_followers-requires-send-S g c κs within = param_send _ _ (arg_send _ no _ script_send)
 
-pub run_serial-requires-clause-new : goal.run_serial-requires-clause-new
-run_serial-requires-clause-new c =
-    may_run (folder_of (arc_value c.args.folder.now)) c.in_ok-units.units.items c.in_ok-units.ensures.units c.in_ok-core.core (opened_of (opening_of c.in_ok-opening.opening)) c.args.kinds c.in_ok-core.ensures.opened
-    (ap opened_of (c.in_ok-opening.ensures ∙ ap skeleton_of (c.layout.ensures ∙ ap (λ w. w.layout) c.deref.ensures))) c.requires.kinds
+pub run_followers-requires-clause-new : goal.run_followers-requires-clause-new
+run_followers-requires-clause-new g c κs within = c.in_ok-begun.ensures.new
 
 pub returns : goal.returns
-returns c =
-    has_run (folder_of (arc_value c.args.folder.now)) c.in_ok-units.units.items c.in_ok-units.ensures.units c.in_ok-core.core (opened_of (opening_of c.in_ok-opening.opening)) c.args.kinds c.in_ok-core.ensures.opened
-    (ap opened_of (c.in_ok-opening.ensures ∙ ap skeleton_of (c.layout.ensures ∙ ap (λ w. w.layout) c.deref.ensures))) c.requires.kinds c.run_serial.result c.run_serial.ensures.ran
+returns g c = begun_runs (folder_of (arc_value c.args.folder.now)) c.in_ok-begun.begun.units.items c.in_ok-begun.begun.core c.run_followers.result c.in_ok-begun.ensures c.run_followers.ensures.ran

@@ -14,7 +14,7 @@ use Rattle.sc_app.proofs.Checked.{diagnosed, ran_on}
 use Rattle.sc_app.proofs.project.check_trees.Goals as goal
 
 pub returns : goal.returns
-returns c =
+returns g c =
     let w : Folder = arc_value c.in_ok-folder.field-0.folder in
     let fs = sources_of c.args.files.items in
     let us = map tree_of c.args.units.items in

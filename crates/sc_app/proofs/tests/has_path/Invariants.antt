@@ -1,8 +1,0 @@
-use Rattle.std.proofs.Common.{map, take}
-use Rattle.std.specs.List.{Contains}
-use Rattle.sc_io.specs.FileList.{files_of}
-use Rattle.sc_app.proofs.Sourcing.{path_of}
-use Rattle.sc_app.proofs.tests.has_path.Given as goal
-
-abbrev pub invariant-loop-other : goal.invariant-loop-other
-invariant-loop-other l = Contains (map path_of (files_of (take l.other-index l.files))) l.path → ⊥

@@ -1,0 +1,14 @@
+-- A sink over memory of whose puts chosen ones are cut.
+use Rattle.std.specs.Prelude.{ℕ, List, [], ◌∷◌, ◌==◌, cond, Option, Some, None}
+
+-- what was written; the puts that are cut, each with the bytes that it takes at most; how many puts were made, and how many failed
+pub record CutSinkOf : Type 0 where
+  pub written : List ℕ
+  pub cuts : List (ℕ × ℕ)
+  pub puts : ℕ
+  pub faults : ℕ
+
+-- how many bytes the put with this number takes at most, if it is cut; of two cuts of one put the first counts
+abbrev pub cut_at : List (ℕ × ℕ) → ℕ → Option ℕ
+cut_at [] k = None
+cut_at (c ∷ cs) k = cond (c.0 == k) (Some c.1) (cut_at cs k)

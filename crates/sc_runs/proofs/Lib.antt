@@ -1,0 +1,2 @@
+mod DistinctPaths
+mod SmallSources

@@ -1,0 +1,19 @@
+//! Whole runs over folders in memory, by the top call: what is written, with any number of workers, and how the runs end.
+//!
+//! All of it is tests. They stand above the crate of the top call, so that this is not proved again with them.
+#![tactic(auto)]
+
+#[cfg(test)]
+mod folders;
+#[cfg(test)]
+mod graph_tests;
+#[cfg(test)]
+mod listing_tests;
+#[cfg(test)]
+mod order_tests;
+#[cfg(test)]
+mod tables;
+#[cfg(test)]
+mod tests;
+#[cfg(test)]
+mod thread_tests;

@@ -1,0 +1,293 @@
+//! Whole runs over folders in memory: what is written, and how they end.
+
+ghost use Rattle.std.specs.Prelude.{IfOk};
+ghost use Rattle.sc_io.specs.FileList.{files_of};
+ghost use Rattle.sc_io.specs.SourceTree.{HasDistinctPaths};
+
+use crate::folders::{File, Files, add_file, files_and_report, folder};
+use crate::tables::{FOUR_FILES, NO_SOURCE, TABLES};
+use sc_app::{Status, Which, run};
+use sc_io::{CutSink, MemSink, MemTree, PlainSink, PlainTree};
+use std::alloc::Global;
+use std::fmt::Write;
+use std::sync::Wait;
+use std::test::Fail;
+use std::thread::Threads;
+
+/// The bytes of the longest file that is taken.
+const MEBIBYTE: usize = 1_048_576;
+
+/// Two files without a fault.
+pub(crate) const TWO_FILES: Files<'static> = "\
+-- A.java
+class A extends B {}
+-- B.java
+class B {}
+";
+
+/// Their graph.
+pub(crate) const GRAPH_OF_TWO: &str = "\
+file A.java
+odi java.lang
+file B.java
+odi java.lang
+type A
+ext B
+constructor()
+type B
+ext java.lang.Object
+constructor()
+end
+";
+
+/// Files of so many spaces each, in the order of their paths.
+fn spaces(alloc: Global, sizes: &[usize]) -> Result<Vec<File>, Fail>
+    ensures { IfOk result (λ v. HasDistinctPaths (files_of v.items)) }
+{
+    let mut all = Vec::new(alloc);
+    for size in sizes {
+        let mut path = String::new(alloc);
+        write!(path, "F{}.java", all.len())?;
+        let bytes = vec![in alloc; b' '; *size]?;
+        add_file(alloc, &mut all, path.as_str(), bytes.as_slice())?;
+    }
+    Ok(all)
+}
+
+/// What a run over files writes, and how it ends.
+fn checked<R: Threads + Wait + Sync>(rt: &R, alloc: Global, files: Vec<File>) -> (Status, PlainSink)
+    requires { HasDistinctPaths (files_of files.items) }
+{
+    let mut tree = PlainTree::new(files);
+    let mut out = PlainSink::new(alloc);
+    let status = run(rt, alloc, &["check", "x"], &mut tree, &mut out);
+    (status, out)
+}
+
+/// The status of a report.
+pub(crate) fn status_of(report: &str) -> Status {
+    if report.starts_with("ok ") {
+        Status::Clean
+    } else {
+        Status::Found
+    }
+}
+
+#[test]
+fn reports_on_folders(rt: HostRuntime) -> Result<(), Fail> {
+    let alloc = rt.alloc();
+    for table in TABLES.iter().chain([&NO_SOURCE]) {
+        for row in table.split("==\n") {
+            let (files, report) = files_and_report(row)?;
+            let (status, out) = checked(&rt, alloc, folder(alloc, files)?);
+            assert_eq!(rt; out.taken(), report.as_bytes(), "{row}");
+            assert_eq!(rt; status, status_of(report), "{row}");
+        }
+    }
+    Ok(())
+}
+
+/// The sizes of files, and what is written of them. The first file that passes a limit is told, and of that the limit on a file alone.
+const SIZES: [(&[usize], &str, Status); 8] = [
+    (&[MEBIBYTE], "ok files 1 types 0\n", Status::Clean),
+    (
+        &[MEBIBYTE, MEBIBYTE, MEBIBYTE, MEBIBYTE],
+        "ok files 4 types 0\n",
+        Status::Clean,
+    ),
+    (
+        &[MEBIBYTE + 1],
+        "limit file bytes\n",
+        Status::Limit(Which::FileBytes),
+    ),
+    (
+        &[MEBIBYTE, MEBIBYTE, MEBIBYTE, MEBIBYTE, MEBIBYTE],
+        "limit total bytes\n",
+        Status::Limit(Which::TotalBytes),
+    ),
+    (
+        &[MEBIBYTE, MEBIBYTE, MEBIBYTE, MEBIBYTE, 1],
+        "limit total bytes\n",
+        Status::Limit(Which::TotalBytes),
+    ),
+    (
+        &[MEBIBYTE, MEBIBYTE, MEBIBYTE, MEBIBYTE, 1, MEBIBYTE + 1],
+        "limit total bytes\n",
+        Status::Limit(Which::TotalBytes),
+    ),
+    (
+        &[MEBIBYTE, MEBIBYTE, MEBIBYTE, MEBIBYTE, MEBIBYTE + 1],
+        "limit file bytes\n",
+        Status::Limit(Which::FileBytes),
+    ),
+    (
+        &[1, MEBIBYTE + 1, MEBIBYTE, MEBIBYTE, MEBIBYTE, MEBIBYTE],
+        "limit file bytes\n",
+        Status::Limit(Which::FileBytes),
+    ),
+];
+
+#[test]
+fn takes_bytes_up_to_the_limits(rt: HostRuntime) -> Result<(), Fail> {
+    let alloc = rt.alloc();
+    for (sizes, report, end) in SIZES {
+        let (status, out) = checked(&rt, alloc, spaces(alloc, sizes)?);
+        assert_eq!(rt; out.taken(), report.as_bytes(), "{report}");
+        assert_eq!(rt; status, end, "{report}");
+    }
+    Ok(())
+}
+
+/// Words that are no command.
+const NO_COMMANDS: [&[&str]; 25] = [
+    &[],
+    &["check"],
+    &["check", ""],
+    &["check", "-x"],
+    &["check", "x", "y"],
+    &["check", "--workers=1", "--workers=2", "x"],
+    &["check", "--workers=0", "x"],
+    &["check", "--workers=01", "x"],
+    &["check", "--workers=65", "x"],
+    &["check", "--workers=100", "x"],
+    &["check", "--workers=4294967297", "x"],
+    &["check", "--workers=+1", "x"],
+    &["check", "--workers=1 ", "x"],
+    &["check", "--workers=", "x"],
+    &["check", "--workers", "x"],
+    &["check", "-workers=1", "x"],
+    &["graph"],
+    &["graph", "-x"],
+    &["answers", ""],
+    &["print", "x"],
+    &["gen"],
+    &["gen", "0"],
+    &["gen", "1001"],
+    &["gen", "01"],
+    &["gen", "--workers=65", "1"],
+];
+
+#[test]
+fn refuses_words_that_are_no_command(rt: HostRuntime) -> Result<(), Fail> {
+    let alloc = rt.alloc();
+    for words in NO_COMMANDS {
+        let mut tree = PlainTree::new(folder(alloc, TWO_FILES)?);
+        let mut out = PlainSink::new(alloc);
+        let status = run(&rt, alloc, words, &mut tree, &mut out);
+        assert_eq!(rt; status, Status::Usage);
+        assert_eq!(rt; out.taken(), b"usage\n".as_slice());
+    }
+    Ok(())
+}
+
+/// What is written by a command over files of whose tree this call fails, and how the run ends.
+fn failing_at<R: Threads + Wait + Sync>(
+    rt: &R,
+    alloc: Global,
+    words: &[&str],
+    files: Files,
+    call: u64,
+) -> Result<(Status, PlainSink), Fail> {
+    let mut tree = MemTree::new(folder(alloc, files)?, vec![in alloc; call]?);
+    let mut out = PlainSink::new(alloc);
+    let status = run(rt, alloc, words, &mut tree, &mut out);
+    Ok((status, out))
+}
+
+#[test]
+fn each_call_of_the_tree_may_fail(rt: HostRuntime) -> Result<(), Fail> {
+    let alloc = rt.alloc();
+    let (files, _) = files_and_report(FOUR_FILES)?;
+    // The paths are listed, and each file is read.
+    for call in 0..5u64 {
+        let (status, out) = failing_at(&rt, alloc, &["check", "x"], files, call)?;
+        assert_eq!(rt; status, Status::ReadFault);
+        assert!(rt; out.taken().is_empty());
+    }
+    // No other call is made, and none at all for a project.
+    let rows: [(&[&str], u64, &str); 3] = [
+        (&["check", "x"], 5, "ok files 4 types 5\n"),
+        (&["gen", "1"], 0, "ok files 1 types 1\n"),
+        (&["gen", "--workers=2", "12"], 0, "ok files 12 types 12\n"),
+    ];
+    for (words, call, report) in rows {
+        let (status, out) = failing_at(&rt, alloc, words, files, call)?;
+        assert_eq!(rt; out.taken(), report.as_bytes());
+        assert_eq!(rt; status, Status::Clean);
+    }
+    Ok(())
+}
+
+#[test]
+fn no_put_follows_one_that_failed(rt: HostRuntime) -> Result<(), Fail> {
+    let alloc = rt.alloc();
+    let report = "A.java:1:17: E20 cannot find type B\nerrors 1\n";
+    // The first put is the only one, so a cut of the second changes nothing.
+    let rows: [((u64, u64), &str, Status); 3] = [
+        ((0, 0), "", Status::WriteFault),
+        ((0, 7), "A.java:", Status::WriteFault),
+        ((1, 0), report, Status::Found),
+    ];
+    for (cut, written, end) in rows {
+        let mut tree = PlainTree::new(folder(alloc, "-- A.java\nclass A extends B {}\n")?);
+        let mut out = CutSink::new(alloc, vec![in alloc; cut]?);
+        let status = run(&rt, alloc, &["check", "x"], &mut tree, &mut out);
+        assert_eq!(rt; out.taken(), written.as_bytes());
+        assert_eq!(rt; status, end);
+    }
+    Ok(())
+}
+
+/// Runs over files with a sink of each room up to that of the whole text, and sees that a front of the text is written.
+fn fills_rooms<R: Threads + Wait + Sync>(
+    rt: &R,
+    alloc: Global,
+    files: Files,
+    words: &[&str],
+    whole: &str,
+    end: Status,
+) -> Result<(), Fail> {
+    let all = whole.len() as u64;
+    for room in 0..all + 1 {
+        let mut tree = PlainTree::new(folder(alloc, files)?);
+        let mut out = MemSink::new(alloc, Some(room));
+        let status = run(rt, alloc, words, &mut tree, &mut out);
+        let wanted = if room < all { Status::WriteFault } else { end };
+        if status != wanted
+            || out.taken().len() as u64 != room
+            || !whole.as_bytes().starts_with(out.taken())
+        {
+            return Err(Fail::new("another front of the text was written"));
+        }
+    }
+    Ok(())
+}
+
+#[test]
+fn the_sink_may_have_any_room(rt: HostRuntime) -> Result<(), Fail> {
+    let alloc = rt.alloc();
+    let mut long = String::from_str(alloc, "-- A.java\n")?;
+    for _ in 0..MEBIBYTE + 1 {
+        long.push(' ')?;
+    }
+    let rows: [(Files, &[&str], &str, Status); 4] = [
+        (TWO_FILES, &["print", "x"], "usage\n", Status::Usage),
+        (TWO_FILES, &["graph", "x"], GRAPH_OF_TWO, Status::Clean),
+        (
+            TWO_FILES,
+            &["check", "x"],
+            "ok files 2 types 2\n",
+            Status::Clean,
+        ),
+        (
+            long.as_str(),
+            &["check", "x"],
+            "limit file bytes\n",
+            Status::Limit(Which::FileBytes),
+        ),
+    ];
+    for (files, words, whole, end) in rows {
+        fills_rooms(&rt, alloc, files, words, whole, end)?;
+    }
+    Ok(())
+}

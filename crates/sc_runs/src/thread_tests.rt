@@ -1,0 +1,133 @@
+//! Runs by several workers.
+
+use crate::folders::{Files, files_and_report, folder};
+use crate::tables::{CIRCLES, FAULTS, FIELDS, FOUR_FILES, IMPORTS, METHODS, NO_SOURCE, SMALL};
+use crate::tests::status_of;
+use sc_app::{Status, run, run_gated};
+use sc_io::{PlainSink, PlainTree};
+use sg_unit::Gate;
+use std::alloc::Global;
+use std::sync::Wait;
+use std::sync::atomic::{AtomicU64, Ordering};
+use std::test::Fail;
+use std::thread::Threads;
+
+/// The words that ask for some numbers of workers.
+const WORKERS: [&str; 5] = [
+    "--workers=1",
+    "--workers=2",
+    "--workers=3",
+    "--workers=8",
+    "--workers=64",
+];
+
+/// How many times each folder is checked by each number of workers.
+const TIMES: u32 = 100;
+
+/// What these words write of a folder, and how the run ends.
+pub(crate) fn written<R: Threads + Wait + Sync>(
+    rt: &R,
+    alloc: Global,
+    words: &[&str],
+    files: Files,
+) -> Result<(Status, PlainSink), Fail> {
+    let mut tree = PlainTree::new(folder(alloc, files)?);
+    let mut out = PlainSink::new(alloc);
+    let status = run(rt, alloc, words, &mut tree, &mut out);
+    Ok((status, out))
+}
+
+/// Whether each number of workers writes the report of a folder, each time.
+fn is_reported_by_all<R: Threads + Wait + Sync>(
+    rt: &R,
+    alloc: Global,
+    row: &str,
+) -> Result<bool, Fail> {
+    let (files, report) = files_and_report(row)?;
+    for workers in WORKERS {
+        for _time in 0..TIMES {
+            let (status, out) = written(rt, alloc, &["check", workers, "x"], files)?;
+            if out.taken() != report.as_bytes() || status != status_of(report) {
+                return Ok(false);
+            }
+        }
+    }
+    Ok(true)
+}
+
+/// The folders that are checked by several workers.
+const TABLES: [&str; 8] = [
+    SMALL, NO_SOURCE, IMPORTS, CIRCLES, FIELDS, METHODS, FAULTS, FOUR_FILES,
+];
+
+#[test]
+fn any_number_of_workers_writes_the_same(rt: HostRuntime) -> Result<(), Fail> {
+    let alloc = rt.alloc();
+    for table in TABLES {
+        for row in table.split("==\n") {
+            assert!(rt; is_reported_by_all(&rt, alloc, row)?, "{row}");
+        }
+    }
+    Ok(())
+}
+
+/// How many times a unit looks whether the other came.
+const PATIENCE: u64 = 1_000_000_000;
+
+/// A gate at which the first steps of the first two units wait for each other.
+#[derive(Drop)]
+struct Meeting {
+    first: AtomicU64,
+    second: AtomicU64,
+    /// How many steps went on alone.
+    alone: AtomicU64,
+}
+
+/// Whether the other unit came in time.
+fn comes(other: &AtomicU64) -> bool {
+    for _turn in 0..PATIENCE {
+        if other.load(Ordering::SeqCst) > 0 {
+            return true;
+        }
+    }
+    false
+}
+
+impl Gate for Meeting {
+    fn before(&self, unit: u32, step: u64) {
+        if step != 1 || unit > 1 {
+            return;
+        }
+        let (own, other) = if unit == 0 {
+            (&self.first, &self.second)
+        } else {
+            (&self.second, &self.first)
+        };
+        own.store(1, Ordering::SeqCst);
+        if !comes(other) {
+            self.alone.fetch_add(1, Ordering::SeqCst);
+        }
+    }
+
+    fn answered(&self, _unit: u32, _step: u64) {}
+}
+
+#[test]
+fn two_workers_check_at_once(rt: HostRuntime) -> Result<(), Fail> {
+    let alloc = rt.alloc();
+    let (files, report) = files_and_report(FOUR_FILES)?;
+    let meeting = Meeting {
+        first: AtomicU64::new(0),
+        second: AtomicU64::new(0),
+        alone: AtomicU64::new(0),
+    };
+    let mut tree = PlainTree::new(folder(alloc, files)?);
+    let mut out = PlainSink::new(alloc);
+    let words = ["check", "--workers=2", "x"];
+    let ran = run_gated(&rt, alloc, &words, &mut tree, &mut out, &meeting);
+    assert_eq!(rt; out.taken(), report.as_bytes());
+    assert_eq!(rt; ran.status, Status::Clean);
+    assert!(rt; ran.outcome.is_some());
+    assert_eq!(rt; meeting.alone.load(Ordering::SeqCst), 0);
+    Ok(())
+}
