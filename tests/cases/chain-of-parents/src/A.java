@@ -1,4 +1,0 @@
-class A {}
-class B extends A {}
-class C extends B {}
-class D extends Object {}

@@ -1,2 +1,0 @@
-class B extends Object{}
-class A extends C{}
