@@ -1,9 +1,10 @@
 //! The program: it fetches the words, makes the real tree and the real sink, makes the top call and ends with its
-//! status. It prints nothing itself: what is printed, and when, stands in the contract of `sc_app::run`.
+//! status. It prints nothing itself: what is printed, and when, stands in the contract of `sc_app::run_gated`.
 #![tactic(auto)]
 
-use sc_app::{Status, run};
+use sc_app::{Status, run_gated};
 use sc_io::{DirTree, StdSink};
+use sg_unit::NoGate;
 use std::alloc::AllocError;
 use std::env;
 use std::io::{self, ErrorKind};
@@ -47,5 +48,5 @@ fn run_words<R: Files + Print + AllocGlobal + Threads + Wait + Sync + Clone + Co
     };
     let mut tree = DirTree::new(rt, folder);
     let mut out = StdSink::new(rt);
-    Ok(run(&rt, alloc, texts.as_slice(), &mut tree, &mut out))
+    Ok(run_gated(&rt, alloc, texts.as_slice(), &mut tree, &mut out, &NoGate).status)
 }
