@@ -1,6 +1,7 @@
 -- Each step of the table keeps the rule.
 use Rattle.std.proofs.Common.{◌≡◌, ◌≢◌, ℕ, ◌+◌, ◌%◌, ◌^◌, ◌<◌, ◌≤◌, List, [], ◌∷◌, ◌++◌, length, get_or, set, sym, refl, ap, ◌∙◌, subst, inl, inr, ◌⊎◌, ⊎_elim, arith, length-set, length-append}
-use Rattle.std.specs.Prelude.{Option, Some, None, IsSome, All}
+use Rattle.std.specs.Prelude.{◌==◌, Option, Some, None, IsSome, All}
+use prog.Atomic.{either}
 use Rattle.std.proofs.lemmas.List.Elements.{All-cons, All-nil}
 use Rattle.std.proofs.lemmas.List.{append-nil}
 use Rattle.std.proofs.Math.Nat.{mod-eq_of_lt}
@@ -10,7 +11,7 @@ use mathlib.Core.Logic.{dite}
 use native.Mathlib.Decide.{ℕ_discrete}
 use lib.ListN.{get_elem?}
 use Rattle.atomic_table.specs.Table.{State, Me, Step, step, Act, keeps, takes, gives, stepped, Valid, homes_after, carried_after, rest, Allows, Splits, Joins, Final, Seen}
-use Rattle.atomic_table.proofs.Lists.{at_set, set_again, set_here, set_else, at_longer}
+use Rattle.atomic_table.proofs.Lists.{at_set, set_again, set_here, set_else, at_longer, exchanged}
 use Rattle.sg_turn.specs.declared.stage.Stage.{Stage}
 use Rattle.sg_turn.specs.declared.stage.Stage.TheVariants.{Outside, Drawn, Inside, Spent, Joined}
 use Rattle.sg_turn.specs.declared.view.View.{View}
@@ -18,7 +19,7 @@ use Rattle.sg_turn.specs.Entries.{Begins, told_by}
 use Rattle.sg_turn.specs.Stage.{draws_at, live_at, Has, IsFree}
 use Rattle.sg_turn.specs.View.{joined_view, former_maker, new_maker, gathering_view, draw_count, live_count, weight, total}
 use Rattle.sg_turn.specs.Rule.{SeatKnows, Knows, IsPlaced, IsRuled, IsInTurn, TicketsFit}
-use Rattle.sg_turn.specs.Steps.{Looks, Draws, Ends, Serves, Gives, StepsKeepRule}
+use Rattle.sg_turn.specs.Steps.{Looks, Draws, Ends, Serves, Marks, Gives, StepsKeepRule}
 use Rattle.sg_turn.proofs.Lists.{at_below, same_at, at_one, each_set, at_end, at_both}
 use Rattle.sg_turn.proofs.EntryLists.{begins_more, told_same, told_other, not_longer, last_same}
 use Rattle.sg_turn.proofs.Views.{draws_one, no_ticket, free_live, total_set, total_snoc, total_le, not_inside, not_joined, alone}
@@ -145,8 +146,8 @@ module _ {S E R : Type 0} (entries : S → List E) (root : S → R) (teller : E 
   -- a step on the table with these words and this slot
   at_table : (s : State (Option S) (View E R)) (r : Rule s) (id i : ℕ) (me : Me (Option S) (View E R)) (f : ℕ → ℕ) (then : ℕ → Me (Option S) (View E R) → Type 0)
       → ((w : View E R) × (a : Act (Option S)) × Valid (r.home ∷ []) me.1 a
-      × Rule record { words = set (r.next ∷ r.serving ∷ []) i (f (get_or (r.next ∷ r.serving ∷ []) i 0)); homes = homes_after (r.home ∷ []) me.1 a; views = set s.views id w }
-      × then (get_or (r.next ∷ r.serving ∷ []) i 0) (w, carried_after me.1 a))
+      × Rule record { words = set (r.next ∷ r.serving ∷ r.asleep ∷ []) i (f (get_or (r.next ∷ r.serving ∷ r.asleep ∷ []) i 0)); homes = homes_after (r.home ∷ []) me.1 a; views = set s.views id w }
+      × then (get_or (r.next ∷ r.serving ∷ r.asleep ∷ []) i 0) (w, carried_after me.1 a))
       → (w : View E R) × (a : Act (Option S)) × Valid s.homes me.1 a × Rule (stepped s i (f (get_or s.words i 0)) id me.1 w a) × then (get_or s.words i 0) (w, carried_after me.1 a)
   at_table s r id i me f then p = subst
       (λ (z : List ℕ × List (maybe.Option (Option S))). (w : View E R) × (a : Act (Option S)) × Valid z.1 me.1 a × Rule record { words = set z.0 i (f (get_or z.0 i 0)); homes = homes_after z.1 me.1 a; views = set s.views id w }
@@ -177,6 +178,7 @@ module _ {S E R : Type 0} (entries : S → List E) (root : S → R) (teller : E 
         log = r.log;
         next = r.next;
         serving = r.serving;
+        asleep = r.asleep;
         home = r.home;
         words = r.words;
         slots = r.slots;
@@ -216,6 +218,7 @@ module _ {S E R : Type 0} (entries : S → List E) (root : S → R) (teller : E 
               (λ (e' : (j ≡ length (set vs id left)) × (right ≡ x)). absurd (subst (λ (z : W). Has z.stage t) (sym e'.1) h)) (at_end (set vs id left) right x j e) in
               r.ruled.apart i j t v w (had i v ei hi) (had j w ej hj) hi hj;
         };
+        marked = r.marked;
       }
 
   -- 2: taking a seat back
@@ -242,6 +245,7 @@ module _ {S E R : Type 0} (entries : S → List E) (root : S → R) (teller : E 
         log = r.log;
         next = r.next;
         serving = r.serving;
+        asleep = r.asleep;
         home = r.home;
         words = r.words;
         slots = r.slots;
@@ -279,19 +283,20 @@ module _ {S E R : Type 0} (entries : S → List E) (root : S → R) (teller : E 
               (λ (a : (j ≢ other) × (get_elem? one j ≡ maybe.some x)). ⊎_elim (λ (b : (j ≡ id) × (both ≡ x)). absurd (no_ticket k.stage t free (subst (λ (z : W). Has z.stage t) (sym b.1) h))) (λ (b : (j ≢ id) × (get_elem? vs j ≡ maybe.some x)). b.1) (at_set vs id j both x a.1)) (at_set one other j joined_view x e) in
               r.ruled.apart i j t v x (had i v ei hi) (had j x ej hj) hi hj;
         };
+        marked = r.marked;
       }
 
   -- the next ticket still fits its word
   room : (log : List E) (next serving : ℕ) (vs : List (View E R)) (home : maybe.Option (Option S)) → IsRuled entries root teller base seats log next serving vs home → next + 1 < 2 ^ 64
   room log next serving vs home r = let a = r.drawn in let b = r.short in let c = r.few in let d = total_le draw_count (λ v. draws_one v.stage) vs in omega arith
 
-  -- what these steps tell doesn't read the step
+  -- what these steps tell doesn't read the step, but for a draw
   abbrev nothing : Step (Option S)
   nothing = step 0 0 0 0 maybe.none
 
   -- 3: drawing a ticket
-  pub draws_one_more : (slots id : ℕ) (me : Me (Option S) (View E R)) → me.0.stage ≡ Outside → Allows Rule slots id me 0 (λ n. (n + 1) % 2 ^ 64) (Draws nothing me)
-  draws_one_more slots id me out s r _ at _ = let u = r.ruled in let v = me.0 in let w : W = record v { stage = Drawn r.next } in
+  pub draws_meant : (slots id : ℕ) (st : Step (Option S)) (me : Me (Option S) (View E R)) → me.0.stage ≡ Outside → Allows Rule slots id me 0 (λ n. either (n == st.first) ((st.first + 1) % 2 ^ 64) n) (Draws st me)
+  draws_meant slots id st me out s r _ at _ = let u = r.ruled in let v = me.0 in let w : W = record v { stage = Drawn r.next } in
       let seat : SeatKnows entries root teller base r.log s.views id v = subst (λ (z : Stage). Knows entries root teller base seats r.log r.next r.serving s.views id v z) out (u.each id v at) in
       let fits : (r.next + 1) % 2 ^ 64 ≡ r.next + 1 = mod-eq_of_lt (room r.log r.next r.serving s.views r.home u) in
       let d : draw_count v ≡ 0 = ap draws_at out in let order = u.order in
@@ -301,7 +306,22 @@ module _ {S E R : Type 0} (entries : S → List E) (root : S → R) (teller : E 
       seat refl refl refl seat.begins seat.own (λ k. (k, order, omega arith))
       (λ t (h : r.next ≡ t). inr (omega arith))
       (λ t a b. dite (ℕ_discrete r.next t) (λ e. inl e) (λ n. inr (a, omega arith, (λ h. subst (λ (z : Stage). Has z t) out h)))) in
-      at_table s r id 0 me (λ n. (n + 1) % 2 ^ 64) (Draws nothing me) (w, keeps, tt, record { log = r.log; next = r.next + 1; serving = r.serving; home = r.home; words = ap (λ (z : ℕ). z ∷ r.serving ∷ []) fits; slots = refl; ruled = new }, refl)
+      let F : ℕ → Type 0 = λ z. (w : View E R) × (a : Act (Option S)) × Valid (r.home ∷ []) me.1 a × Rule record { words = z ∷ r.serving ∷ r.asleep ∷ []; homes = homes_after (r.home ∷ []) me.1 a; views = set s.views id w } × Draws st me r.next (w, carried_after me.1 a) in
+      at_table s r id 0 me (λ n. either (n == st.first) ((st.first + 1) % 2 ^ 64) n) (Draws st me) (exchanged r.next st.first ((st.first + 1) % 2 ^ 64) F
+      (λ hit. (
+        w,
+        keeps,
+        tt,
+        record { log = r.log; next = r.next + 1; serving = r.serving; asleep = r.asleep; home = r.home; words = ap (λ (z : ℕ). z ∷ r.serving ∷ r.asleep ∷ []) (ap (λ (z : ℕ). (z + 1) % 2 ^ 64) (sym hit) ∙ fits); slots = refl; ruled = new; marked = r.marked },
+        ((λ e. ap (λ (z : ℕ). (record v { stage = Drawn z }, me.1)) e), λ not. absurd (not hit)),
+      ))
+      (λ miss. (
+        v,
+        keeps,
+        tt,
+        record { log = r.log; next = r.next; serving = r.serving; asleep = r.asleep; home = r.home; words = refl; slots = refl; ruled = subst (λ (z : List W). IsRuled entries root teller base seats r.log r.next r.serving z r.home) (sym (set_again s.views id v at)) u; marked = r.marked },
+        ((λ e. absurd (miss e)), λ _. refl),
+      )))
 
   -- the value is at home where the served ticket is one that waits
   home_of : (log : List E) (next serving : ℕ) (vs : List (View E R)) (home : maybe.Option (Option S)) → IsRuled entries root teller base seats log next serving vs home → (id : ℕ) (v : View E R) → get_elem? vs id ≡ maybe.some v → v.stage ≡ Drawn serving
@@ -327,6 +347,7 @@ module _ {S E R : Type 0} (entries : S → List E) (root : S → R) (teller : E 
           log = r.log;
           next = r.next;
           serving = r.serving;
+          asleep = r.asleep;
           home = maybe.none;
           words = refl;
           slots = refl;
@@ -336,6 +357,7 @@ module _ {S E R : Type 0} (entries : S → List E) (root : S → R) (teller : E 
               seat refl refl refl ([], sym (append-nil (entries x) ∙ there.2)) seat.own (λ k. (k, sym hit, b, there.2))
               (λ z h. inl (subst (λ (q : Stage). Has q z) (sym is) h))
               (λ z a b. dite (ℕ_discrete t z) (λ e. inl e) (λ n. inr (a, b, (λ h. n (subst (λ (q : Stage). Has q z) is h)))));
+          marked = r.marked;
         },
         λ t' is''. let e : t ≡ t' = own t' (sym is ∙ is'') in (
           (λ r_is. record { value = x; view = ap (λ (z : ℕ). record v { stage = Inside z; seen = entries x }) e; slot = refl; begins = subst (Begins v.seen) (sym there.2) seat.begins; own = ap (told_by teller v.number) there.2 ∙ seat.own; rooted = seat.rooted ∙ ap Some (sym there.3) }),
@@ -346,7 +368,7 @@ module _ {S E R : Type 0} (entries : S → List E) (root : S → R) (teller : E 
         v,
         keeps,
         tt,
-        record { log = r.log; next = r.next; serving = r.serving; home = r.home; words = refl; slots = refl; ruled = subst (λ (z : List W). IsRuled entries root teller base seats r.log r.next r.serving z r.home) (sym (set_again s.views id v at)) u },
+        record { log = r.log; next = r.next; serving = r.serving; asleep = r.asleep; home = r.home; words = refl; slots = refl; ruled = subst (λ (z : List W). IsRuled entries root teller base seats r.log r.next r.serving z r.home) (sym (set_again s.views id v at)) u; marked = r.marked },
         λ t' is''. let g : Drawn t ≡ Drawn t' = sym is ∙ is'' in let e : t ≡ t' = (cc) in ((λ r_is. absurd (miss (r_is ∙ sym e))), λ _. refl),
       )))
 
@@ -362,7 +384,7 @@ module _ {S E R : Type 0} (entries : S → List E) (root : S → R) (teller : E 
       let base_is : root x ≡ base = let e : Some (root x) ≡ Some base = sym rooted ∙ seat.rooted in (cc) in
       let others_wait : (z : ℕ) → ¬ (Has v.stage z) → z ≢ t = λ z free e. free (subst (λ (q : Stage). Has q z) (sym is) (sym e)) in
       let d : draw_count v ≡ 1 = ap draws_at is in
-      let P : View E R → Type 0 = λ w. Rule record { words = r.next ∷ (r.serving + 1) % 2 ^ 64 ∷ []; homes = maybe.some (Some x) ∷ []; views = set vs id w } in
+      let P : View E R → Type 0 = λ w. Rule record { words = r.next ∷ (r.serving + 1) % 2 ^ 64 ∷ r.asleep ∷ []; homes = maybe.some (Some x) ∷ []; views = set vs id w } in
       let done : (w : View E R) → P w → Ends v (entries x) w → (w : View E R) × (a : Act (Option S)) × Valid s.homes ((0, Some x) ∷ []) a × Rule (stepped s 1 ((get_or s.words 1 0 + 1) % 2 ^ 64) id ((0, Some x) ∷ []) w a) × Serves entries nothing (v, (0, Some x) ∷ []) (get_or s.words 1 0) (w, carried_after ((0, Some x) ∷ []) a) =
       λ w p e. at_table s r id 1 (v, (0, Some x) ∷ []) (λ n. (n + 1) % 2 ^ 64) (Serves entries nothing (v, (0, Some x) ∷ [])) (w, gives, tt, p, λ y is_y. (refl, (let f : x ≡ y = same_slot x y is_y in subst (λ (z : S). Ends v (entries z) w) f e))) in
       let move : (w : View E R) → live_count w ≡ 1 → w.kept ≡ v.kept → ((seen : List E) → Begins seen r.log → Begins seen (entries x)) → ((n : ℕ) → n ≢ v.number → told_by teller n (entries x) ≡ told_by teller n r.log) → 1 + length r.log ≤ length (entries x) + draw_count w
@@ -371,13 +393,15 @@ module _ {S E R : Type 0} (entries : S → List E) (root : S → R) (teller : E 
         log = entries x;
         next = r.next;
         serving = r.serving + 1;
+        asleep = r.asleep;
         home = maybe.some (Some x);
-        words = ap (λ (z : ℕ). r.next ∷ z ∷ []) fits;
+        words = ap (λ (z : ℕ). r.next ∷ z ∷ r.asleep ∷ []) fits;
         slots = refl;
         ruled = moved r.log (entries x) r.next r.serving r.next (r.serving + 1) vs id v w at (ap live_at is) is_live seat.numbered kept begins others
             (λ z free a b. let o = others_wait z free in (omega arith, b)) (λ z free a b. absurd (others_wait z free (a ∙ sym now))) r.home (maybe.some (Some x)) u (omega arith) short (omega arith)
             (x, refl, refl, base_is) seat number rooted made sees owns (λ k. seat_knows (entries x) r.next (r.serving + 1) (set vs id w) id w w.stage free k) (λ z h. absurd (no_ticket w.stage z free h))
             (λ z a b. inr (omega arith, b, (λ h. let e : t ≡ z = subst (λ (q : Stage). Has q z) is h in omega arith)));
+        marked = r.marked;
       } in
       ⊎_elim
       (λ (same : entries x ≡ v.seen). let w : W = record v { stage = Spent } in let is_log : entries x ≡ r.log = same ∙ seen in let size = ap length is_log in
@@ -395,6 +419,16 @@ module _ {S E R : Type 0} (entries : S → List E) (root : S → R) (teller : E 
       → Allows Rule slots id me' 1 (λ n. (n + 1) % 2 ^ 64) (Serves entries nothing me')
   serves_after slots id me me' t x is holds after short rooted gives_what = subst (λ (z : Me (Option S) (View E R)). Allows Rule slots id z 1 (λ n. (n + 1) % 2 ^ 64) (Serves entries nothing z)) (sym after)
       (serves slots id me.0 ((0, Some x) ∷ rest me.1) t x is (ap (λ (z : List (ℕ × Option S)). (0, Some x) ∷ rest z) holds) short rooted gives_what)
+
+  -- 8: marking whether a thread may be asleep
+  pub marks : (slots id : ℕ) (me : Me (Option S) (View E R)) (mark : ℕ) → mark ≤ 1 → Allows Rule slots id me 2 (λ n. mark) (λ n. Marks nothing me mark)
+  marks slots id me mark small s r _ at _ = at_table s r id 2 me (λ n. mark) (λ n. Marks nothing me mark) (
+    me.0,
+    keeps,
+    tt,
+    record { log = r.log; next = r.next; serving = r.serving; asleep = mark; home = r.home; words = refl; slots = refl; ruled = subst (λ (z : List W). IsRuled entries root teller base seats r.log r.next r.serving z r.home) (sym (set_again s.views id me.0 at)) r.ruled; marked = small },
+    refl,
+  )
 
   at_home : (log : List E) (next serving : ℕ) (vs : List (View E R)) (i : ℕ) (v : View E R) → get_elem? vs i ≡ maybe.some v → IsFree v.stage → total weight vs ≤ weight v
       → (h : maybe.Option (Option S)) → IsPlaced entries root teller base seats log next serving vs h → (x : S) × (h ≡ maybe.some (Some x)) × (entries x ≡ log) × (root x ≡ base)
@@ -430,17 +464,19 @@ module _ {S E R : Type 0} (entries : S → List E) (root : S → R) (teller : E 
   slot_full id k ws xs f free all r there' = let c = closes id k ws xs f free all in subst IsSome (same_at xs 0 (Some c.0) r c.1 there') refl
 
   fits_all : (s : State (Option S) (View E R)) → Rule s → All (λ n. n + 1 < 2 ^ 64) s.words
-  fits_all s r = let u = r.ruled in let n = room r.log r.next r.serving s.views r.home u in let o = u.order in
-      subst (All (λ n. n + 1 < 2 ^ 64)) (sym r.words) (All-cons (λ n. n + 1 < 2 ^ 64) r.next (r.serving ∷ []) n (All-cons (λ n. n + 1 < 2 ^ 64) r.serving [] (omega arith) (All-nil (λ n. n + 1 < 2 ^ 64))))
+  fits_all s r = let u = r.ruled in let n = room r.log r.next r.serving s.views r.home u in let o = u.order in let m = r.marked in
+      let P : ℕ → Type 0 = λ n. n + 1 < 2 ^ 64 in
+      subst (All P) (sym r.words) (All-cons P r.next (r.serving ∷ r.asleep ∷ []) n (All-cons P r.serving (r.asleep ∷ []) (omega arith) (All-cons P r.asleep [] (omega arith) (All-nil P))))
 
 module _ {S E R : Type 0} (entries : S → List E) (root : S → R) (teller : E → ℕ) where
   pub steps_keep_rule : StepsKeepRule entries root teller
   steps_keep_rule = record {
     makes_seat = λ base seats id v is some few. deals entries root teller base seats id v is some few;
     joins_seat = λ base seats id v other w free free'. gathers entries root teller base seats id v other w free free';
-    draws_ticket = λ base seats slots id st m is. draws_one_more entries root teller base seats slots id m is;
+    draws_ticket = λ base seats slots id st m is. draws_meant entries root teller base seats slots id st m is;
     looks_at_serving = λ base seats slots id st m t is. looks entries root teller base seats slots id m t is;
     advances_serving = λ base seats slots id st m t x is out short rooted gives_what. serves entries root teller base seats slots id m.0 m.1 t x is out short rooted gives_what;
+    marks_asleep = λ base seats slots id st m mark small. marks entries root teller base seats slots id m mark small;
   }
 
   pub tickets_fit : TicketsFit entries root teller

@@ -1,5 +1,5 @@
 -- The rule of the lock's table, which holds between any two atomic steps.
--- Word 0 is `next`, the next ticket, and word 1 is `serving`, the ticket that is served. The one slot has the value, or nothing while the served seat has it.
+-- Word 0 is `next`, the next ticket, word 1 is `serving`, the ticket that is served, and word 2 is `asleep`, which is 1 where a thread may be asleep. The one slot has the value, or nothing while the served seat has it.
 -- The entries that the rule speaks of, `log`, are those of the value as of the last advance of `serving`. Before the first advance there are none.
 use Rattle.std.specs.Prelude.{◌≡◌, ℕ, ◌+◌, ◌<◌, ◌≤◌, ◌^◌, List, [], ◌∷◌, length, Option, Some, All}
 use mathlib.Core.Option as maybe
@@ -66,11 +66,13 @@ module _ {S E R : Type 0} (entries : S → List E) (root : S → R) (teller : E 
     pub log : List E
     pub next : ℕ
     pub serving : ℕ
+    pub asleep : ℕ
     pub home : maybe.Option (Option S)
-    pub words : s.words ≡ next ∷ serving ∷ []
+    pub words : s.words ≡ next ∷ serving ∷ asleep ∷ []
     pub slots : s.homes ≡ home ∷ []
     pub ruled : IsRuled base seats log next serving s.views home
+    pub marked : asleep ≤ 1
 
-  -- under the rule the tickets fit their words, also the next one: no addition to a word wraps
+  -- under the rule the tickets and the mark fit their words, also the next one: no addition to a word wraps
   abbrev pub TicketsFit : Type 0
   TicketsFit = (base : R) (seats : ℕ) (s : State (Option S) (View E R)) → IsInTurn base seats s → All (λ n. n + 1 < 2 ^ 64) s.words

@@ -1,16 +1,18 @@
--- The eight kinds of atomic step, and that each keeps the rule. A step changes the view of its own seat alone, except the making and the joining of a seat.
+-- The nine kinds of atomic step, and that each keeps the rule. A step changes the view of its own seat alone, except the making and the joining of a seat.
 --
 --   1  make a seat           the new view has its number, the root, no entries, and nothing seen           `new_maker`
 --   2  join a seat           the joined view is spent; its entries are kept with the gathering seat       `gathering_view`, `joined_view`
---   3  draw a ticket         one addition to `next`: the seat has that ticket                              `Draws`
+--   3  draw a ticket         `next` becomes one more if it is the ticket that was meant: the seat has it   `Draws`
 --   4  look at `serving`     one load: where its ticket is served, the seat takes the slot, and has        `Looks`
 --                            seen the value's entries
 --   5  value out of the slot no word, no view: a plain read and write of a slot that the seat has          `exchange` of the table
 --   6  value into the slot   no word, no view                                                             `exchange` of the table
 --   7  advance `serving`     by one: the slot is given back, the new entry joins the seat's own, seen is   `Serves`
 --                            the value's entries, no ticket; without an entry the seat is spent
---   8  park or wake          no word, no view, no seat                                                     `park`, `wake_all` of the table
-use Rattle.std.specs.Prelude.{◌≡◌, ◌≢◌, ℕ, ◌+◌, ◌%◌, ◌<◌, ◌^◌, ◌⊎◌, List, [], ◌∷◌, ◌++◌, length, Option, Some}
+--   8  mark `asleep`         one store of 0 or 1: no view                                                  `Marks`
+--   9  park or wake          no word, no view, no seat                                                     `park`, `wake_one` of the table
+use Rattle.std.specs.Prelude.{◌≡◌, ◌≢◌, ℕ, ◌+◌, ◌%◌, ◌<◌, ◌≤◌, ◌^◌, ◌==◌, ◌⊎◌, List, [], ◌∷◌, ◌++◌, length, Option, Some}
+use prog.Atomic.{either}
 use Rattle.atomic_table.specs.Table.{Me, Step, Allows, Splits, Joins}
 use Rattle.sg_turn.specs.declared.stage.Stage.TheVariants.{Outside, Drawn, Inside, Spent}
 use Rattle.sg_turn.specs.declared.view.View.{View}
@@ -20,9 +22,13 @@ use Rattle.sg_turn.specs.View.{former_maker, new_maker, gathering_view, joined_v
 use Rattle.sg_turn.specs.Rule.{IsInTurn}
 
 module _ {E R : Type 0} where
-  -- 3: the seat has the ticket that was next
+  -- 3: the seat has the ticket that was meant, if that was next, and else nothing changes
   abbrev pub Draws : {S : Type 0} → Step S → Me S (View E R) → ℕ → Me S (View E R) → Type 0
-  Draws st m next m' = m' ≡ (record m.0 { stage = Drawn next }, m.1)
+  Draws st m next m' = (next ≡ st.first → m' ≡ (record m.0 { stage = Drawn st.first }, m.1)) × (next ≢ st.first → m' ≡ m)
+
+  -- 8: nothing changes but the mark
+  abbrev pub Marks : {S : Type 0} → Step S → Me S (View E R) → ℕ → Me S (View E R) → Type 0
+  Marks st m asleep m' = m' ≡ m
 
 module _ {S E R : Type 0} (entries : S → List E) (root : S → R) (teller : E → ℕ) where
   -- the seat m took the slot, with the value in it, at its ticket t
@@ -62,9 +68,11 @@ module _ {S E R : Type 0} (entries : S → List E) (root : S → R) (teller : E 
     pub joins_seat : (base : R) (seats id : ℕ) (v : View E R) (other : ℕ) (w : View E R) → IsFree v.stage → IsFree w.stage
         → Joins (IsInTurn entries root teller base seats) id v other w (gathering_view v w) joined_view
     pub draws_ticket : (base : R) (seats slots id : ℕ) (st : Step (Option S)) (m : Me (Option S) (View E R)) → m.0.stage ≡ Outside
-        → Allows (IsInTurn entries root teller base seats) slots id m 0 (λ n. (n + 1) % 2 ^ 64) (Draws st m)
+        → Allows (IsInTurn entries root teller base seats) slots id m 0 (λ n. either (n == st.first) ((st.first + 1) % 2 ^ 64) n) (Draws st m)
     pub looks_at_serving : (base : R) (seats slots id : ℕ) (st : Step (Option S)) (m : Me (Option S) (View E R)) (t : ℕ) → m.0.stage ≡ Drawn t
         → Allows (IsInTurn entries root teller base seats) slots id m 1 (λ n. n) (Looks entries root teller st m)
     pub advances_serving : (base : R) (seats slots id : ℕ) (st : Step (Option S)) (m : Me (Option S) (View E R)) (t : ℕ) (x : S) → m.0.stage ≡ Inside t → m.1 ≡ (0, Some x) ∷ []
         → length (entries x) < 2 ^ 63 → m.0.root ≡ Some (root x) → Gives entries teller m.0 x
         → Allows (IsInTurn entries root teller base seats) slots id m 1 (λ n. (n + 1) % 2 ^ 64) (Serves entries st m)
+    pub marks_asleep : (base : R) (seats slots id : ℕ) (st : Step (Option S)) (m : Me (Option S) (View E R)) (mark : ℕ) → mark ≤ 1
+        → Allows (IsInTurn entries root teller base seats) slots id m 2 (λ n. mark) (λ n. Marks st m mark)

@@ -20,9 +20,9 @@ module _ {E R : Type 0} where
   fresh_seats z r zero = []
   fresh_seats z r (suc n) = fresh_seats z r n ++ fresh_seat z r n ∷ []
 
--- a table of two words and a slot
+-- a table of three words and a slot
 abbrev pub IsSized : TableId → Type 0
-IsSized z = (z.words ≡ 2) × (z.slots ≡ 1)
+IsSized z = (z.words ≡ 3) × (z.slots ≡ 1)
 
 -- the same seat of the same table
 abbrev pub IsSame : {S V : Type 0} → Seat S V → Seat S V → Type 0

@@ -5,6 +5,7 @@ ghost use Rattle.sg_turn.specs.Steps.{Gives, Ends};
 ghost use Rattle.sg_turn.specs.Turn.{IsSized, IsSame};
 
 use crate::in_turn::{InTurn, Origin};
+use crate::sleeping::wake_one;
 use crate::steps::Serve;
 use crate::storied::Storied;
 use crate::view::View;
@@ -25,22 +26,6 @@ pub(crate) fn give<V: Storied>(
 {
     let found = shared.exchange(seat, 0, Some(value));
     let None = found else { unreachable!() };
-    let served = shared.fetch_add::<Serve<V>>(seat, 1, 1);
-    wake_waiting::<V>(shared, served);
-}
-
-/// Wakes all that park, where somebody may wait for a ticket. The ticket behind `served` is served now.
-///
-/// No wake-up is lost. Where `next` is that ticket, nobody has drawn it: who draws it later looks at `serving` after
-/// it moved on, and finds it served. Else its holder is woken if it parks, or finds `serving` changed where it is about
-/// to. All are woken, since a wake of one may reach the holder of a later ticket, who would park again.
-fn wake_waiting<V: Storied>(
-    shared: &Shared<Option<V>, View<V::Entry, V::Root>, Origin<V>, InTurn<V>>,
-    served: u64,
-)
-    requires { IsSized shared.now.table_id }
-{
-    if shared.peek(0) != served.wrapping_add(1) {
-        shared.wake_all(1);
-    }
+    shared.fetch_add::<Serve<V>>(seat, 1, 1);
+    wake_one::<V>(shared, seat);
 }

@@ -15,7 +15,7 @@ pub(crate) struct Origin<V> {
     pub(crate) seats: u32,
 }
 
-/// The value is taken in turns. A table under this rule has the words `next` and `serving`, and one slot.
+/// The value is taken in turns. A table under this rule has the words `next`, `serving` and `asleep`, and one slot.
 pub(crate) struct InTurn<V> {
     marker: PhantomData<V>,
 }

@@ -10,6 +10,7 @@ mod gathering;
 mod giving;
 mod in_turn;
 pub mod laws;
+mod sleeping;
 mod stage;
 mod steps;
 mod storied;

@@ -1,6 +1,6 @@
 //! The kinds of atomic step that change what a seat knows. `specs/Steps.antt` has what each does.
 ghost use Rattle.sg_turn.specs.View.{former_maker, new_maker, gathering_view, joined_view};
-ghost use Rattle.sg_turn.specs.Steps.{Draws, Looks, Serves};
+ghost use Rattle.sg_turn.specs.Steps.{Draws, Looks, Serves, Marks};
 
 use crate::storied::Storied;
 use crate::view::View;
@@ -25,11 +25,18 @@ impl<E, R> Join<View<E, R>> for Gather {
     ghost spent = { joined_view };
 }
 
-/// A ticket is drawn.
+/// A ticket is drawn, if it is the next one.
 pub(crate) struct Draw;
 
 impl<S, E, R> Play<S, View<E, R>> for Draw {
     ghost then = { Draws };
+}
+
+/// It is marked whether a thread may be asleep.
+pub(crate) struct Mark;
+
+impl<S, E, R> Play<S, View<E, R>> for Mark {
+    ghost then = { Marks };
 }
 
 /// A seat looks at `serving`.

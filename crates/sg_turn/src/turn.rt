@@ -18,7 +18,7 @@ use std::marker::Model;
 use std::snapshot::Snapshot;
 use std::sync::Wait;
 
-/// A lock that is taken in turns: who drew a ticket first has the value first.
+/// A lock that is taken in turns. A seat draws a ticket once the lock is free, and has the value while its ticket is served.
 ///
 /// Contracts see which lock it is, the root of its value, and how many seats it has. Threads share it by reference.
 #[derive(Drop)]
@@ -64,7 +64,7 @@ impl<V: Storied> Turn<V> {
             seats,
         };
         slots.push_reserved(Some(value));
-        match Table::new(alloc, &[0, 0], slots, &origin) {
+        match Table::new(alloc, &[0, 0, 0], slots, &origin) {
             Ok(made) => {
                 let (table, first) = made;
                 let all = deal::<V>(&table.shared, first, seats, all);
@@ -76,7 +76,8 @@ impl<V: Storied> Turn<V> {
 
     /// Waits for the seat's turn, and takes the value. It takes no memory.
     ///
-    /// Without another thread at the lock it is a few atomic steps. It may wait for ever where a thread keeps the value.
+    /// Without another thread at the lock it is a few atomic steps. It may wait for ever where a thread keeps the value,
+    /// or where others come first each time: those that wait keep no order. A thread that waits long sleeps.
     pub fn lock<R: Wait>(&self, rt: &R, seat: &mut TurnSeat<V>) -> V
         requires own { IsOf self.now seat.old }
         requires outside { (seat.old.inside ≡ false) × (seat.old.spent ≡ false) }
