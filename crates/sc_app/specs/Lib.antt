@@ -15,6 +15,7 @@ pub mod Lines
 pub mod Listing
 pub mod NamedTypes
 pub mod Outcome
+pub mod Prepared
 pub mod Ran
 pub mod Results
 pub mod Sourced

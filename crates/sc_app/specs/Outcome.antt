@@ -1,10 +1,11 @@
 -- What checking the sources of a folder comes to.
-use Rattle.std.specs.Prelude.{◌≡◌, ℕ, ◌<◌, List, length, map, Option, None, Some}
+use Rattle.std.specs.Prelude.{◌≡◌, ℕ, ◌<◌, ◌≤◌, List, length, map, Option, None, Some}
 use Rattle.std.specs.Arc.{arc_value}
 use Rattle.std.specs.declared.sync.Arc.{Arc}
 use Rattle.std.specs.declared.alloc.Global.{Global}
 use Rattle.jv_diag.specs.Plain.{DiagOf, diag_of}
 use Rattle.jv_layout.specs.Folder.{layout_of}
+use Rattle.jv_layout.specs.Sizes.{most_types}
 use Rattle.jv_tree.specs.DeclTree.{UnitTree}
 use Rattle.jv_unit.specs.declared.folder.Folder.{Folder}
 use Rattle.jv_unit.specs.Kept.{folder_of, IsWhole}
@@ -13,12 +14,22 @@ use Rattle.sc_io.specs.SourceTree.{FileOf}
 use Rattle.sc_report.specs.Report.{AreSorted}
 use Rattle.sc_sources.specs.Sources.{Outcome as SourceOutcome, ReadsFolder, faults_from}
 use Rattle.sc_app.specs.declared.outcome.Outcome.{Outcome}
-use Rattle.sc_app.specs.Diagnoses.{Diagnoses, HaveTrees}
+use Rattle.sc_app.specs.Diagnoses.{Diagnoses, HaveTrees, types_declared}
 use Rattle.sc_app.specs.FolderRun.{JavaCore, IsFolderRun}
 
 -- some file has a fault
 abbrev pub HaveFault : List FileOf → Type 0
 HaveFault fs = (names : List (List ℕ)) × (xs : List SourceOutcome) × ReadsFolder (map (λ f. f.bytes) fs) names xs × (0 < length (faults_from 0 xs))
+
+-- a folder is that of the trees of files, which declare so many types and no more than they may
+pub record IsReady (fs : List FileOf) (w : Folder) (types : ℕ) : Type 0 where
+  pub names : List (List ℕ)
+  pub trees : List UnitTree
+  pub have : HaveTrees fs names trees
+  pub few : types_declared names trees ≤ most_types
+  pub declared : types ≡ types_declared names trees
+  pub folder : folder_of w ≡ record { layout = layout_of names trees; names = names; files = trees; kinds = (folder_of w).kinds }
+  pub whole : IsWhole w
 
 -- a folder is that of the trees of files, and a core is that of a run of its checkers, which is over
 pub record RanOn (fs : List FileOf) (w : Folder) (c : JavaCore) : Type 0 where

@@ -1,38 +1,30 @@
 //! What the sources of a folder come to.
 
-ghost use Rattle.std.specs.Prelude.{◌≡◌, ◌≤◌, IfErr, IfOk, cond, length, map, nat_le};
-ghost use Rattle.jv_layout.specs.Folder.{layout_of};
-ghost use Rattle.jv_layout.specs.Readers.{file_of};
-ghost use Rattle.jv_layout.specs.Sizes.{most_types, own_types};
-ghost use Rattle.jv_tree.specs.DeclTree.{tree_of};
+ghost use Rattle.std.specs.Prelude.{◌≡◌, ◌≤◌, IfErr, IfOk, length};
+ghost use Rattle.std.specs.Arc.{arc_value};
 ghost use Rattle.jv_unit.specs.Kept.{folder_of, IsWhole};
 ghost use Rattle.sc_io.specs.SourceFile.{sources_of};
 ghost use Rattle.sc_sources.specs.Read.{AreWithinLimits, IsReadOf};
-ghost use Rattle.sc_app.specs.Diagnoses.{DeclareTooMany, HaveTrees, types_declared};
+ghost use Rattle.sc_sources.specs.declared.sources.Sources.TheVariants.{Faults};
+ghost use Rattle.sc_app.specs.Diagnoses.{DeclareTooMany};
 ghost use Rattle.sc_app.specs.FolderReport.{Reports};
 ghost use Rattle.sc_app.specs.FolderRun.{IsFolderRun, ruled};
-ghost use Rattle.sc_app.specs.Outcome.{IsOutcomeOf};
+ghost use Rattle.sc_app.specs.Outcome.{IsOutcomeOf, IsReady};
 
 use crate::circular::circular_lines;
-use crate::crew::Crew;
-use crate::folder_run::{Shared, share_folder};
-use crate::in_order::InOrder;
+use crate::folder_run::{run_folder, run_in_order};
 use crate::outcome::Outcome;
+use crate::prepared::{Prepared, prepare};
 use crate::results::ended_diags;
-use crate::workers::Workers;
 use jv_diag::DiagList;
 use jv_instance::Java;
-use jv_layout::{Layout, LayoutFault, layout};
-use jv_tree::{Names, Unit};
 use jv_unit::Folder;
 use sc_io::SourceFile;
 use sc_report::sorted_diags;
-use sc_sources::{Sources, read_sources};
-use sg_base::Scope;
 use sg_core::{Core, Phase};
 use sg_unit::{Gate, NoGate};
 use std::alloc::{AllocError, Global};
-use std::sync::Wait;
+use std::sync::{Arc, Wait};
 use std::thread::Threads;
 
 /// Why a project cannot be checked.
@@ -79,8 +71,19 @@ pub fn check_gated<R: Threads + Wait + Sync, G: Gate>(
     ensures outcome { IfOk result (IsOutcomeOf (sources_of files.items)) }
     ensures fault { IfErr result (λ e. e ≡ ProjectFault.TooManyTypes → DeclareTooMany (sources_of files.items)) }
 {
-    let crew = Workers { rt, workers, gate };
-    check_sources(&crew, alloc, files)
+    match prepare(alloc, files.as_slice())? {
+        Prepared::Faults(faults) => Ok(faulty(files, faults)),
+        Prepared::Ready {
+            folder,
+            kinds,
+            types,
+        } => {
+            let Ok(core) = run_folder(rt, alloc, &folder, kinds, workers, gate) else {
+                return Err(ProjectFault::OutOfMemory);
+            };
+            ran(alloc, files, folder, types, core)
+        }
+    }
 }
 
 /// Checks the sources of a folder, as `check_project` does, on the caller's thread alone: first each number in `order` makes one step of
@@ -96,31 +99,24 @@ pub fn check_in_order(
     ensures outcome { IfOk result (IsOutcomeOf (sources_of files.items)) }
     ensures fault { IfErr result (λ e. e ≡ ProjectFault.TooManyTypes → DeclareTooMany (sources_of files.items)) }
 {
-    check_sources(&InOrder { order }, alloc, files)
-}
-
-/// Checks the sources of a folder by a crew.
-fn check_sources<C: Crew>(
-    crew: &C,
-    alloc: Global,
-    files: Vec<SourceFile>,
-) -> Result<Outcome, ProjectFault>
-    requires within { AreWithinLimits (sources_of files.items) }
-    ensures outcome { IfOk result (IsOutcomeOf (sources_of files.items)) }
-    ensures fault { IfErr result (λ e. e ≡ ProjectFault.TooManyTypes → DeclareTooMany (sources_of files.items)) }
-{
-    let Ok(sources) = read_sources(alloc, files.as_slice()) else {
-        return Err(ProjectFault::OutOfMemory);
-    };
-    match sources {
-        Sources::Faults(faults) => Ok(faulty(files, faults)),
-        Sources::Trees { names, units } => { check_read(crew, alloc, files, names, units) }
+    match prepare(alloc, files.as_slice())? {
+        Prepared::Faults(faults) => Ok(faulty(files, faults)),
+        Prepared::Ready {
+            folder,
+            kinds,
+            types,
+        } => {
+            let Ok(core) = run_in_order(alloc, &folder, kinds, order) else {
+                return Err(ProjectFault::OutOfMemory);
+            };
+            ran(alloc, files, folder, types, core)
+        }
     }
 }
 
 /// What files come to of which some have faults.
 fn faulty(files: Vec<SourceFile>, faults: DiagList) -> Outcome
-    requires faults { IsReadOf (sources_of files.items) (Sources.Faults faults) }
+    requires faults { IsReadOf (sources_of files.items) (Faults faults) }
     requires within { length files.items ≤ 4096 }
     ensures { IsOutcomeOf (sources_of files.items) result }
 {
@@ -134,48 +130,23 @@ fn faulty(files: Vec<SourceFile>, faults: DiagList) -> Outcome
     }
 }
 
-/// What files come to that have trees.
-fn check_read<C: Crew>(
-    crew: &C,
+/// What files come to whose checkers ran.
+fn ran(
     alloc: Global,
     files: Vec<SourceFile>,
-    names: Names,
-    units: Vec<Unit>,
+    folder: Arc<Folder, Global>,
+    types: u32,
+    core: Core<Java, DiagList>,
 ) -> Result<Outcome, ProjectFault>
-    requires have { HaveTrees (sources_of files.items) names (map tree_of units.items) }
+    requires ready { IsReady (sources_of files.items) (arc_value folder) types }
+    requires run { IsFolderRun (folder_of (arc_value folder)) core }
     requires within { length files.items ≤ 4096 }
     ensures outcome { IfOk result (IsOutcomeOf (sources_of files.items)) }
-    ensures fault { IfErr result (λ e. e ≡ ProjectFault.TooManyTypes → DeclareTooMany (sources_of files.items)) }
+    ensures fault { IfErr result (λ e. e ≡ ProjectFault.OutOfMemory) }
 {
-    match layout(alloc, &names, units.as_slice()) {
-        Ok(layout) => match check_trees(crew, alloc, files, layout, names, units) {
-            Ok(outcome) => Ok(outcome),
-            Err(_) => Err(ProjectFault::OutOfMemory),
-        },
-        Err(LayoutFault::TooManyTypes) => Err(ProjectFault::TooManyTypes),
-        Err(LayoutFault::OutOfMemory) => Err(ProjectFault::OutOfMemory),
-    }
-}
-
-/// Checks the trees of a folder's sources.
-fn check_trees<C: Crew>(
-    crew: &C,
-    alloc: Global,
-    files: Vec<SourceFile>,
-    layout: Layout,
-    names: Names,
-    units: Vec<Unit>,
-) -> Result<Outcome, AllocError>
-    requires layout { layout ≡ layout_of names (map tree_of units.items) }
-    requires have { HaveTrees (sources_of files.items) names (map tree_of units.items) }
-    requires few { types_declared names (map tree_of units.items) ≤ most_types }
-    requires within { length files.items ≤ 4096 }
-    ensures { IfOk result (IsOutcomeOf (sources_of files.items)) }
-{
-    let types = own_types(&layout);
-    let Shared { folder, kinds } = share_folder(alloc, layout, names, units)?;
-    let core = crew.run_folder(alloc, &folder, kinds)?;
-    let diags = run_diags(alloc, &folder, &core)?;
+    let Ok(diags) = run_diags(alloc, &folder, &core) else {
+        return Err(ProjectFault::OutOfMemory);
+    };
     Ok(Outcome {
         diags: sorted_diags(diags.into_vec()),
         files: files.as_slice().len() as u32,
@@ -184,26 +155,6 @@ fn check_trees<C: Crew>(
         folder: Some(folder),
         core: Some(core),
     })
-}
-
-/// How many types a layout has behind the prelude's.
-fn own_types(layout: &Layout) -> u32
-    requires { own_types layout.now.types ≤ most_types }
-    ensures { result ≡ own_types layout.now.types }
-{
-    let types = layout.types();
-    let mut count = 0;
-    for ty in types {
-        count += own_count(layout, *ty);
-    }
-    count as u32
-}
-
-/// One where a type stands behind the prelude's, and else none.
-fn own_count(layout: &Layout, ty: Scope) -> usize
-    ensures { result ≡ cond (nat_le 2 (file_of layout.now ty)) 1 0 }
-{
-    if layout.file_of(ty) >= 2 { 1 } else { 0 }
 }
 
 /// The diagnostics of a folder, by what the run of its checkers came to.

@@ -4,7 +4,7 @@ use Rattle.sg_base.specs.declared.scope.Scope.{Scope}
 use Rattle.jv_layout.specs.Readers.{file_of}
 use Rattle.jv_layout.specs.Sizes.{own_types}
 use Rattle.sc_app.proofs.OwnTypes.{own_types_counted}
-use Rattle.sc_app.proofs.project.own_types.Goals as goal
+use Rattle.sc_app.proofs.prepared.own_types.Goals as goal
 
 pub overflow_cast-result : goal.overflow_cast-result
 overflow_cast-result c =
