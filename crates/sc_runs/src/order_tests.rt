@@ -38,8 +38,11 @@ fn add_source(
     requires { AreSmall (sources_of sources.old.items) }
     ensures { OnOk result (AreSmall (sources_of sources.new.items)) }
 {
-    if sources.len() >= MOST || source.len() > MOST {
-        return Err(Fail::new("too many sources, or one that is too long"));
+    if sources.len() >= MOST {
+        return Err(Fail::new("too many sources"));
+    }
+    if source.len() > MOST {
+        return Err(Fail::new("a source is too long"));
     }
     let path = String::from_str(alloc, path)?;
     let bytes = Vec::from_slice(alloc, source.as_bytes())?;

@@ -26,12 +26,14 @@ use std::sync::Wait;
 //   200 looks, then draw, and wake all who park      0.48   0.50   0.34      0.57   0.22   0.10
 //   draw when free, 10 looks, count who sleeps       0.43   0.17   0.09      0.99   1.06   1.03
 //   draw when free, 8 looks, mark that one sleeps    0.75   0.67   0.66      1.00   1.03   0.97
+//   the same with 12 looks                           0.58   0.55   0.52      0.95   0.82   0.76
 //
-// With a count each turn wakes a thread while any is counted. In a replica of the last row 6 or 10 looks, no looks
-// after a wake, and the three words far apart in memory made no difference that could be told from the rest.
+// With a count each turn wakes a thread while any is counted. Where the value is large and turns are of many lengths, as
+// a core's are, 8 looks let threads sleep and be woken so often that four of them took a half longer than one; with
+// 12 looks four took a fifth longer. The three words far apart in memory made no difference that could be told.
 
 /// So many looks, each after twice the time of the one before, before a thread sleeps.
-const ROUNDS: u32 = 8;
+const ROUNDS: u32 = 12;
 
 /// Draws a ticket once the lock is free, and takes the value as it is served.
 pub(crate) fn take<V: Storied, R: Wait>(
