@@ -28,6 +28,7 @@ IsKeptAsk z h a (Open s) =
     (m : ℕ) × (a ≡ open_ask s.query m) × (64 * m ≤ s.front.explored) × IsOfTable z.kinds s × Stands (state_of h) (asked_by z s.query) s.front
 IsKeptAsk {P = P} z h a (Ready y) = (q : Query P) × (a ≡ ready_ask q) × IsAnswer h.graph (asked_by z q) y
 
+-- what is kept of the ask of a unit; of a unit beyond the list, that it asks nothing
 abbrev pub ask_at : {I D P : Type 0} → List (Ask I D P) → ℕ → Ask I D P
 ask_at asks u = slice_index_or asks u Nothing
 

@@ -1,81 +1,16 @@
 //! Two units over a small opening, with each reply worked out by hand.
 
 use crate::{AskState, Core, Phase};
-use sg_base::{Graph, Instance, Label, LabelSet, Scope};
+use sg_base::{Graph, Label, LabelSet, Scope};
 use sg_expr::Expr;
+use sg_numbers::{FIRST, Numbers, SECOND};
 use sg_order::Order;
-use sg_query::{Answer, Found, Kind, KindTable, Query, ans_plain};
+use sg_query::{Answer, FoundPaths, Kind, KindTable, Query, ans_plain};
 use sg_state::{Need, Opening};
 use sg_unit::{Entry, Op, Reply};
 use sg_waits::ShownItem;
 use std::alloc::{AllocError, Global};
 use std::test::Fail;
-
-/// Numbers as data, each its own key. A predicate wants one number.
-#[derive(Drop)]
-struct Numbers;
-
-impl Instance for Numbers {
-    ghost use Rattle.std.specs.Prelude.{◌==◌, Some};
-    ghost use Rattle.std.proofs.Common.{arith};
-    ghost use Rattle.std.proofs.lemmas.Bool.Decides.{nat_tests};
-
-    type Datum = u64;
-
-    type Pred = u64;
-
-    ghost wants = { λ p d. p == d };
-
-    ghost same_datum = { λ a b. a == b };
-
-    ghost pred_key = { λ p. Some p };
-
-    ghost datum_key = { λ d. d };
-
-    fn matches(p: &u64, d: &u64) -> bool {
-        *p == *d
-    }
-
-    fn same(a: &u64, b: &u64) -> bool {
-        *a == *b
-    }
-
-    fn key_of_pred(p: &u64) -> Option<u64> {
-        Some(*p)
-    }
-
-    fn key_of_datum(d: &u64) -> u64 {
-        *d
-    }
-
-    fn copy_datum(_alloc: Global, d: &u64) -> Result<u64, AllocError> {
-        Ok(*d)
-    }
-
-    fn copy_pred(_alloc: Global, p: &u64) -> Result<u64, AllocError> {
-        Ok(*p)
-    }
-
-    ghost sameness = { record {
-      reflexive = λ a. Prim.grind (arith, nat_tests);
-      symmetric = λ a b h. Prim.grind (arith, nat_tests);
-      transitive = λ a b c h k. Prim.grind (arith, nat_tests);
-    } };
-
-    ghost one_key = { λ a b h. Prim.grind (arith, nat_tests) };
-
-    ghost keyed = { λ p d k e t. Prim.grind (arith, nat_tests) };
-}
-
-const FIRST: Scope = Scope {
-    unit: u32::MAX,
-    serial: 0,
-};
-
-const SECOND: Scope = Scope {
-    unit: u32::MAX,
-    serial: 1,
-};
 
 /// The scope that unit 0 makes first.
 const FRESH: Scope = Scope { unit: 0, serial: 0 };
@@ -163,17 +98,18 @@ fn done(woken: &[u32]) -> Told {
 }
 
 /// What is told of paths.
-fn paths(found: &[Found<u64>]) -> Told {
-    match found {
-        [first, ..] => Told::Paths(found.len(), Some((first.path.steps().len(), first.datum))),
-        [] => Told::Paths(0, None),
+fn paths(found: &FoundPaths<u64>) -> Told {
+    if found.len() == 0 {
+        return Told::Paths(0, None);
     }
+    let first = found.at(0);
+    Told::Paths(found.len(), Some((first.path.len(), *first.datum)))
 }
 
 /// What is told of an answer.
 fn answered(answer: &Answer<u64>) -> Told {
     match answer {
-        Answer::Paths(found) => paths(found.as_slice()),
+        Answer::Paths(found) => paths(found),
         Answer::TooMany => Told::TooMany,
     }
 }

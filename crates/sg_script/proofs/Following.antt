@@ -22,7 +22,8 @@ use Rattle.sg_script.specs.declared.write.Write.{Write}
 use Rattle.sg_script.specs.declared.write.Write.TheVariants.{AddEdge as Adds, SetDatum as Sets, CloseRow as Closes}
 use Rattle.sg_script.specs.Following.{op_of, written, writes_in, asked_last, is_end, MayWrite, MayFollow, FollowsPlan}
 use Rattle.sg_unit.specs.Orderly.{Did, WasTold}
-use Rattle.sg_script.specs.Script.{Stage, Plan, AreGiven, IsSound, AddsReply, ReadsStage}
+use Rattle.sg_reading.specs.Replies.{AddsReply}
+use Rattle.sg_script.specs.Script.{Stage, Plan, AreGiven, IsSound, ReadsStage}
 use Rattle.sg_script.proofs.Given.{given_more, given_snoc, op_written, writes_append}
 use Rattle.sg_unit.proofs.Pasts.{none_is_orderly, handed_orderly, next_orderly}
 

@@ -15,7 +15,8 @@ use Rattle.sg_script.specs.declared.write.Write.{Write}
 use Rattle.sg_script.specs.Following.{asked_last, MayFollow, FollowsPlan, steps_left}
 use Rattle.sg_unit.specs.Orderly.{IsOrderly, WasTold}
 use Rattle.sg_script.specs.Owing.{OwesEdge, OwesDatum, AsksIn, ComesTo}
-use Rattle.sg_script.specs.Script.{Stage, Plan, IsQuery, AddsReply, setting_by}
+use Rattle.sg_reading.specs.Replies.{AddsReply}
+use Rattle.sg_script.specs.Script.{Stage, Plan, IsQuery, setting_by}
 use Rattle.sg_script.proofs.Conditions.{are_plain, may_give}
 use Rattle.sg_script.proofs.Following.{hands_done, hands_answer, is_answer, not_replied}
 use Rattle.sg_script.proofs.Given.{in_middle}

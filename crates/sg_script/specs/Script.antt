@@ -102,10 +102,6 @@ pub record IsSound {R D P : Type 0} (plan : Plan R D P) : Type 0 where
 
 -- ---- reading a script
 
--- the new replies are the old ones and this one
-abbrev pub AddsReply : {Q A : Type 0} → (Q → Option A) → (Q → Option A) → Q → A → Type 0
-AddsReply {Q} {A} old new q a = (p : Q) (b : A) → (Replied new p b) ↔ (Replied old p b ⊎ ((p ≡ q) × (b ≡ a)))
-
 -- this is what the stage with this number comes to over the replies
 abbrev pub ReadsStage : {D P : Type 0} → (Query P → Option (Answer D)) → List (Stage D P) → ℕ → Known (List (Write D)) (Query P) → Type 0
 ReadsStage {D} {P} reply stages n k = (s : Stage D P) → slice_get stages n ≡ Some s → IsKnown reply s.rule k

@@ -2,7 +2,8 @@ ghost use Rattle.std.specs.Prelude.{◌≡◌, ◌<◌, Option, None, IfOk, OnEr
 ghost use Rattle.sg_query.specs.declared.answer.Answer.{Answer as AnswerOf};
 ghost use Rattle.sg_query.specs.declared.query.Query.{Query as QueryOf};
 ghost use Rattle.sg_reading.specs.Stop.{IsKnown};
-ghost use Rattle.sg_script.specs.Script.{Plan, AddsReply, ReadsStage};
+ghost use Rattle.sg_reading.specs.Replies.{AddsReply};
+ghost use Rattle.sg_script.specs.Script.{Plan, ReadsStage};
 
 use crate::writes::Writes;
 use sg_base::Instance;

@@ -6,79 +6,14 @@ ghost use Rattle.sg_script.specs.Script.{row_writes};
 ghost use Rattle.sg_script.specs.declared.write.Write.TheVariants.{SetDatum};
 
 use crate::{Follower, Script, Write, Writes};
-use sg_base::{Instance, Label, Scope};
+use sg_base::Label;
+use sg_numbers::{FIRST, Numbers, SECOND};
 use sg_query::{Answer, Query};
 use sg_reading::Known;
 use sg_unit::{Op, Reply, Unit};
 use std::alloc::{AllocError, Global};
 use std::marker::Model;
 use std::test::Fail;
-
-/// Numbers as data, each its own key. A predicate wants one number.
-#[derive(Drop)]
-struct Numbers;
-
-impl Instance for Numbers {
-    ghost use Rattle.std.specs.Prelude.{◌==◌, Some};
-    ghost use Rattle.std.proofs.Common.{arith};
-    ghost use Rattle.std.proofs.lemmas.Bool.Decides.{nat_tests};
-
-    type Datum = u64;
-
-    type Pred = u64;
-
-    ghost wants = { λ p d. p == d };
-
-    ghost same_datum = { λ a b. a == b };
-
-    ghost pred_key = { λ p. Some p };
-
-    ghost datum_key = { λ d. d };
-
-    fn matches(p: &u64, d: &u64) -> bool {
-        *p == *d
-    }
-
-    fn same(a: &u64, b: &u64) -> bool {
-        *a == *b
-    }
-
-    fn key_of_pred(p: &u64) -> Option<u64> {
-        Some(*p)
-    }
-
-    fn key_of_datum(d: &u64) -> u64 {
-        *d
-    }
-
-    fn copy_datum(_alloc: Global, d: &u64) -> Result<u64, AllocError> {
-        Ok(*d)
-    }
-
-    fn copy_pred(_alloc: Global, p: &u64) -> Result<u64, AllocError> {
-        Ok(*p)
-    }
-
-    ghost sameness = { record {
-      reflexive = λ a. Prim.grind (arith, nat_tests);
-      symmetric = λ a b h. Prim.grind (arith, nat_tests);
-      transitive = λ a b c h k. Prim.grind (arith, nat_tests);
-    } };
-
-    ghost keyed = { λ p d k e t. Prim.grind (arith, nat_tests) };
-
-    ghost one_key = { λ a b h. Prim.grind (arith, nat_tests) };
-}
-
-const HERE: Scope = Scope {
-    unit: u32::MAX,
-    serial: 0,
-};
-
-const THERE: Scope = Scope {
-    unit: u32::MAX,
-    serial: 1,
-};
 
 fn is_query(p: &Query<u64>, q: &Query<u64>) -> bool
     ensures { result ≡ is_query p.now q.now }
@@ -177,7 +112,7 @@ fn first_query() -> Query<u64>
     ensures { result ≡ first_query }
 {
     Query {
-        start: THERE,
+        start: SECOND,
         kind: 0,
         pred: 5,
     }
@@ -189,14 +124,14 @@ fn row_writes(alloc: Global, answer: &Answer<u64>) -> Result<Writes<u64>, AllocE
     let mut writes = Writes::new(alloc);
     match answer {
         Answer::Paths(_) => writes.push(Write::AddEdge {
-            from: HERE,
+            from: FIRST,
             label: Label::new(1),
-            to: THERE,
+            to: SECOND,
         })?,
         Answer::TooMany => {}
     }
     writes.push(Write::CloseRow {
-        scope: HERE,
+        scope: FIRST,
         label: Label::new(1),
     })?;
     Ok(writes)
@@ -207,7 +142,7 @@ fn datum_writes(alloc: Global) -> Result<Writes<u64>, AllocError>
 {
     let mut writes = Writes::new(alloc);
     writes.push(Write::SetDatum {
-        scope: HERE,
+        scope: FIRST,
         datum: 9,
     })?;
     Ok(writes)
@@ -216,7 +151,7 @@ fn datum_writes(alloc: Global) -> Result<Writes<u64>, AllocError>
 impl Script for Small {
     ghost use Rattle.std.specs.Prelude.{◌≡◌, ◌++◌, ◌∷◌, [], None, IfOk, OnErr};
     ghost use Rattle.sg_script.specs.Example.{reply_to, small_plan};
-    ghost use Rattle.sg_script.specs.Script.{AddsReply};
+    ghost use Rattle.sg_reading.specs.Replies.{AddsReply};
 
     type Inst = Numbers;
 
@@ -279,6 +214,6 @@ fn a_script_is_followed(rt: HostRuntime) -> Result<(), Fail> {
     let mut unit = Follower::new(rt.alloc(), script);
     assert_eq!(rt; unit.id(), 0);
     let first = unit.next(None)?;
-    assert!(rt; matches!(&first, Op::Ask(q) if q.start == THERE && q.kind == 0 && q.pred == 5));
+    assert!(rt; matches!(&first, Op::Ask(q) if q.start == SECOND && q.kind == 0 && q.pred == 5));
     Ok(())
 }

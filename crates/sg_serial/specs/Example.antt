@@ -14,6 +14,7 @@ use Rattle.sg_unit.specs.Trace.{Past}
 abbrev pub first : Scope
 first = record { unit = nobody; serial = 0 }
 
+-- the second scope
 abbrev pub second : Scope
 second = record { unit = nobody; serial = 1 }
 
@@ -37,6 +38,7 @@ abbrev pub own_scope : Bool → Scope
 own_scope false = first
 own_scope true = second
 
+-- the scope whose row the other unit holds
 abbrev pub other_scope : Bool → Scope
 other_scope false = second
 other_scope true = first

@@ -6,9 +6,10 @@ ghost use Rattle.sg_state.specs.Opening.{opened_of, opening_of};
 ghost use Rattle.sg_unit.specs.Unit.{setting_of, CanBeHanded, GoesOn, GivesOwed};
 
 use crate::run_serial;
-use sg_base::{Instance, Label, Scope};
+use sg_base::{Label, Scope};
 use sg_core::{Core, Phase};
 use sg_expr::Expr;
+use sg_numbers::{FIRST, Numbers, SECOND};
 use sg_order::Order;
 use sg_query::{Kind, KindTable, Query};
 use sg_state::{Need, Opening};
@@ -17,72 +18,6 @@ use sg_waits::ShownItem;
 use std::alloc::{AllocError, Global};
 use std::snapshot::Snapshot;
 use std::test::Fail;
-
-/// Numbers as data, each its own key. A predicate wants one number.
-#[derive(Drop)]
-struct Numbers;
-
-impl Instance for Numbers {
-    ghost use Rattle.std.specs.Prelude.{◌==◌, Some};
-    ghost use Rattle.std.proofs.Common.{arith};
-    ghost use Rattle.std.proofs.lemmas.Bool.Decides.{nat_tests};
-
-    type Datum = u64;
-
-    type Pred = u64;
-
-    ghost wants = { λ p d. p == d };
-
-    ghost same_datum = { λ a b. a == b };
-
-    ghost pred_key = { λ p. Some p };
-
-    ghost datum_key = { λ d. d };
-
-    fn matches(p: &u64, d: &u64) -> bool {
-        *p == *d
-    }
-
-    fn same(a: &u64, b: &u64) -> bool {
-        *a == *b
-    }
-
-    fn key_of_pred(p: &u64) -> Option<u64> {
-        Some(*p)
-    }
-
-    fn key_of_datum(d: &u64) -> u64 {
-        *d
-    }
-
-    fn copy_datum(_alloc: Global, d: &u64) -> Result<u64, AllocError> {
-        Ok(*d)
-    }
-
-    fn copy_pred(_alloc: Global, p: &u64) -> Result<u64, AllocError> {
-        Ok(*p)
-    }
-
-    ghost sameness = { record {
-      reflexive = λ a. Prim.grind (arith, nat_tests);
-      symmetric = λ a b h. Prim.grind (arith, nat_tests);
-      transitive = λ a b c h k. Prim.grind (arith, nat_tests);
-    } };
-
-    ghost one_key = { λ a b h. Prim.grind (arith, nat_tests) };
-
-    ghost keyed = { λ p d k e t. Prim.grind (arith, nat_tests) };
-}
-
-const FIRST: Scope = Scope {
-    unit: u32::MAX,
-    serial: 0,
-};
-
-const SECOND: Scope = Scope {
-    unit: u32::MAX,
-    serial: 1,
-};
 
 /// Unit 0 or 1 of two. It asks along the other's row, or adds an edge to its own row and closes that; then it ends with 7.
 #[derive(Drop)]

@@ -4,10 +4,8 @@
 //! its own. Its reader asks what the header looks at, writes the row of the supertypes, closes it, and ends with 7.
 #![tactic(auto)]
 
-mod numbers;
 mod reader;
 
-pub use numbers::Numbers;
 pub use reader::Reader;
 
 #[cfg(test)]

@@ -5,8 +5,8 @@ ghost use Rattle.sg_script.specs.Example.{is_query, reply_to};
 ghost use Rattle.sg_script.specs.Script.{row_stage, row_writes};
 ghost use Rattle.sg_small.specs.Reader.{type_of, first_missing};
 
-use crate::numbers::Numbers;
 use sg_base::{Label, Scope};
+use sg_numbers::Numbers;
 use sg_query::{Answer, KindTable, Query};
 use sg_reading::Known;
 use sg_script::{Script, Write, Writes};
@@ -159,7 +159,7 @@ impl Reader {
 impl Script for Reader {
     ghost use Rattle.std.specs.Prelude.{◌≡◌, ◌++◌, ◌∷◌, [], None, IfOk, OnErr};
     ghost use Rattle.sg_script.specs.Example.{reply_to};
-    ghost use Rattle.sg_script.specs.Script.{AddsReply};
+    ghost use Rattle.sg_reading.specs.Replies.{AddsReply};
     ghost use Rattle.sg_small.specs.Reader.{reader_plan};
 
     type Inst = Numbers;

@@ -10,10 +10,11 @@ ghost use Rattle.sg_state.specs.Opening.{opened_of, opening_of};
 mod link;
 mod linked;
 
-use crate::{Numbers, Reader};
+use crate::Reader;
 use sg_base::{Graph, Label, Scope};
 use sg_core::{Core, Phase};
 use sg_expr::Expr;
+use sg_numbers::{FIRST, Numbers, SECOND, THIRD};
 use sg_order::Order;
 use sg_query::{Kind, KindTable};
 use sg_script::Follower;
@@ -23,21 +24,6 @@ use sg_unit::{Entry, Op};
 use sg_waits::ShownItem;
 use std::alloc::{AllocError, Global};
 use std::test::Fail;
-
-const FIRST: Scope = Scope {
-    unit: u32::MAX,
-    serial: 0,
-};
-
-const SECOND: Scope = Scope {
-    unit: u32::MAX,
-    serial: 1,
-};
-
-const THIRD: Scope = Scope {
-    unit: u32::MAX,
-    serial: 2,
-};
 
 /// The header of a type: the numbers of the types whose supertypes it looks at, and those of the supertypes that it gives.
 #[derive(Clone, Copy)]

@@ -40,5 +40,6 @@ weigh z g false no_ask = 0
 weigh z g false (ready_ask q) = 1
 weigh z g false (open_ask q m) = 2 + (item_bound g (asked_by z q).expr - m)
 
+-- that number for a unit of a run, by whether it waits and what it asks
 abbrev pub weight : {D P : Type 0} → Setting D P → RunOf D P → ℕ → ℕ
 weight z r u = weigh z r.held.graph (r.waits u) (r.asks u)

@@ -39,6 +39,7 @@ lonely = record {
   rest = [];
 }
 
+-- the setting that opens so, with the queries of kind 0 and these ways to compare data
 abbrev pub lonely_setting : {D P : Type 0} → (P → D → Bool) → (D → D → Bool) → Setting D P
 lonely_setting wants same = record { opening = lonely; kinds = one_step; wants = wants; same = same }
 
@@ -58,6 +59,7 @@ pair = record {
   rest = [];
 }
 
+-- the setting that opens so, with the queries of kind 0 and these ways to compare data
 abbrev pub pair_setting : {D P : Type 0} → (P → D → Bool) → (D → D → Bool) → Setting D P
 pair_setting wants same = record { opening = pair; kinds = one_step; wants = wants; same = same }
 
@@ -87,6 +89,7 @@ MakerStands {I} {R} {D} {P} x (suc (suc (suc n))) past given =
 
 -- ---- a desk without room for scopes, at which every ask is ready at once and has too many paths
 
+-- what the desk replies to an operation: a unit that wants a scope gets no reply
 abbrev pub desk_reply : {I R D P : Type 0} → Op I R D P → Option (Reply I D P)
 desk_reply (Fresh labels datum) = None
 desk_reply (AddEdge from label to) = Some (Done [])

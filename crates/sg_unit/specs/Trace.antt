@@ -46,6 +46,7 @@ told_after t Advance y = t
 told_after t Take y = record { past = t.past; last = t.last; reply = Some y }
 told_after t (End x) y = gave t (End x) (Some y)
 
+-- what further entries of the unit tell, one after another, behind what was told before
 abbrev pub told_from : {I R D P : Type 0} → Trace I R D P → List (Entry I R D P) → Trace I R D P
 told_from t [] = t
 told_from t (e ∷ es) = told_from (told_after t e.op e.reply) es

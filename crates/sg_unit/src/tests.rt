@@ -8,73 +8,13 @@ ghost use Rattle.sg_unit.specs.Served.{IsServed};
 ghost use Rattle.sg_unit.specs.Unit.{setting_of, CanBeHanded, GoesOn, GivesOwed};
 
 use crate::{Desk, Entry, Gate, NoGate, Op, Reply, Seat, Unit, Woken};
-use sg_base::{Instance, Label, LabelSet, Scope};
+use sg_base::{Label, LabelSet, Scope};
+use sg_numbers::{FIRST, Numbers};
 use sg_query::{Answer, Query};
 use std::alloc::{AllocError, Global};
 use std::sync::Wait;
 use std::test::Fail;
 use std::thread::Threads;
-
-/// Numbers as data, each its own key. A predicate wants one number.
-#[derive(Drop)]
-struct Numbers;
-
-impl Instance for Numbers {
-    ghost use Rattle.std.specs.Prelude.{◌==◌, Some};
-    ghost use Rattle.std.proofs.Common.{arith};
-    ghost use Rattle.std.proofs.lemmas.Bool.Decides.{nat_tests};
-
-    type Datum = u64;
-
-    type Pred = u64;
-
-    ghost wants = { λ p d. p == d };
-
-    ghost same_datum = { λ a b. a == b };
-
-    ghost pred_key = { λ p. Some p };
-
-    ghost datum_key = { λ d. d };
-
-    fn matches(p: &u64, d: &u64) -> bool {
-        *p == *d
-    }
-
-    fn same(a: &u64, b: &u64) -> bool {
-        *a == *b
-    }
-
-    fn key_of_pred(p: &u64) -> Option<u64> {
-        Some(*p)
-    }
-
-    fn key_of_datum(d: &u64) -> u64 {
-        *d
-    }
-
-    fn copy_datum(_alloc: Global, d: &u64) -> Result<u64, AllocError> {
-        Ok(*d)
-    }
-
-    fn copy_pred(_alloc: Global, p: &u64) -> Result<u64, AllocError> {
-        Ok(*p)
-    }
-
-    ghost sameness = { record {
-      reflexive = λ a. Prim.grind (arith, nat_tests);
-      symmetric = λ a b h. Prim.grind (arith, nat_tests);
-      transitive = λ a b c h k. Prim.grind (arith, nat_tests);
-    } };
-
-    ghost one_key = { λ a b h. Prim.grind (arith, nat_tests) };
-
-    ghost keyed = { λ p d k e t. Prim.grind (arith, nat_tests) };
-}
-
-const CORNER: Scope = Scope {
-    unit: u32::MAX,
-    serial: 0,
-};
 
 /// Unit 1 of two: it asks from the only scope for 5, adds an edge from it to itself, and ends with 7.
 #[derive(Drop)]
@@ -128,7 +68,7 @@ impl Unit for Asker {
             0 => {
                 self.given = 1;
                 Ok(Op::Ask(Query {
-                    start: CORNER,
+                    start: FIRST,
                     kind: 0,
                     pred: 5,
                 }))
@@ -136,9 +76,9 @@ impl Unit for Asker {
             1 => {
                 self.given = 2;
                 Ok(Op::AddEdge {
-                    from: CORNER,
+                    from: FIRST,
                     label: Label::new(0),
-                    to: CORNER,
+                    to: FIRST,
                 })
             }
             _ => {
@@ -343,11 +283,11 @@ fn an_asker_asks_adds_and_ends(rt: HostRuntime) -> Result<(), Fail> {
     let mut new = Asker { given: 0 };
     assert_eq!(rt; new.id(), 1);
     let first = new.next(None)?;
-    assert!(rt; matches!(&first, Op::Ask(q) if q.start == CORNER && q.kind == 0 && q.pred == 5));
+    assert!(rt; matches!(&first, Op::Ask(q) if q.start == FIRST && q.kind == 0 && q.pred == 5));
     let mut answered = Asker { given: 1 };
     let second = answered.next(Some(Reply::Answer(Answer::TooMany)))?;
     assert!(rt;
-        matches!(&second, Op::AddEdge { from, label, to } if *from == CORNER && label.number() == 0 && *to == CORNER)
+        matches!(&second, Op::AddEdge { from, label, to } if *from == FIRST && label.number() == 0 && *to == FIRST)
     );
     let woken = Woken::new(Vec::new(rt.alloc()));
     let mut added = Asker { given: 2 };
@@ -365,7 +305,7 @@ fn a_desk_replies_and_keeps_entries(rt: HostRuntime) -> Result<(), Fail> {
     };
     assert_eq!(rt; seat.number(), 1);
     let ask = Op::Ask(Query {
-        start: CORNER,
+        start: FIRST,
         kind: 0,
         pred: 5,
     });

@@ -2,9 +2,9 @@ ghost use Rattle.std.specs.Prelude.{◌≡◌, ◌<◌, ◌+◌, ◌-◌, ◌==�
 ghost use Rattle.sg_small.specs.Link.{CanAsk, LinkStands, along, link_op, link_part};
 ghost use Rattle.sg_unit.specs.Unit.{setting_of, CanBeHanded, GoesOn, GivesOwed};
 
-use crate::numbers::Numbers;
 use sg_base::{Graph, Scope};
 use sg_core::Core;
+use sg_numbers::Numbers;
 use sg_query::Query;
 use sg_unit::{Op, Reply, Unit};
 use std::alloc::AllocError;

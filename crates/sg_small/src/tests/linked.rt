@@ -3,12 +3,12 @@
 ghost use Rattle.std.specs.Prelude.{◌≡◌, ◌<◌, ◌≤◌, [], length, IfOk, IfSome};
 ghost use Rattle.sg_small.specs.Link.{AreNewLinks};
 
-use crate::Numbers;
 use crate::tests::link::Link;
 use crate::tests::one_step;
-use sg_base::{Label, Scope};
+use sg_base::Label;
 use sg_broker::run_threads;
 use sg_core::{Core, Phase};
+use sg_numbers::{Numbers, scope};
 use sg_query::KindTable;
 use sg_serial::run_serial;
 use sg_state::Opening;
@@ -38,23 +38,15 @@ fn looks_at(shape: Shape, number: u32, count: u32) -> u32
     }
 }
 
-/// The scope of a place.
-fn place(serial: u32) -> Scope {
-    Scope {
-        unit: u32::MAX,
-        serial,
-    }
-}
-
 /// The scopes of so many places and of one more, where each unit holds the row with label 0 of its place.
 fn opening(alloc: Global, count: u32) -> Result<Opening<u64>, AllocError> {
     let mut scopes = Vec::new(alloc);
     let mut row_holds = Vec::new(alloc);
     for number in 0..count {
-        scopes.push(place(number))?;
-        row_holds.push((number, place(number), Label::new(0)))?;
+        scopes.push(scope(number))?;
+        row_holds.push((number, scope(number), Label::new(0)))?;
     }
-    scopes.push(place(count))?;
+    scopes.push(scope(count))?;
     Ok(Opening {
         scopes,
         edges: Vec::new(alloc),
@@ -79,7 +71,7 @@ fn links(
     let count = core.units();
     let mut units = Vec::new(alloc);
     for number in 0..count {
-        let looks = place(looks_at(shape, number, count));
+        let looks = scope(looks_at(shape, number, count));
         let Some(link) = Link::new(core, &graph, number, looks) else {
             return Ok(None);
         };

@@ -2,7 +2,7 @@ use Rattle.std.proofs.Common.{ℕ}
 use Rattle.sg_script.specs.declared.follower.Follower.{Follower}
 use Rattle.sg_script.specs.Example.{reply_to}
 use Rattle.sg_script.specs.Following.{FollowsPlan}
-use Rattle.sg_small.specs.declared.numbers.Numbers.{Numbers}
+use Rattle.sg_numbers.specs.declared.numbers.Numbers.{Numbers}
 use Rattle.sg_small.specs.declared.reader.Reader.{Reader}
 use Rattle.sg_small.specs.Reader.{reader_plan}
 use Rattle.sg_small.proofs.Examples.{readers_are_new}
