@@ -15,12 +15,9 @@ use Rattle.jv_lex.specs.Punctuation.{marks, mark_kind, HasNoMark, IsLongestMark}
 use Rattle.jv_lex.specs.Text.{kind_of, begins_number, begins_fraction, HasToken, HasNoToken}
 use Rattle.jv_lex.specs.declared.token.TokenKind.{TokenKind}
 use Rattle.jv_lex.specs.declared.token.TokenKind.TheVariants.{Char, Str, Punct}
-use Rattle.jv_lex.proofs.Tables.{and_left, and_right}
+use Rattle.jv_lex.proofs.Tables.{some_none, and_left, and_right}
 use Rattle.jv_lex.proofs.Marks.{mark_kind-mark}
 use Rattle.jv_lex.proofs.Literals.{character_closes, character_closed, string_closes, string_closed}
-
-some_none : {X : Type 0} {x : X} → Some x ≡ None → ⊥
-some_none h = cc
 
 -- a run of characters that pass: all of it does, and no longer front does
 list_all-take : (p : ℕ → Bool) (xs : List ℕ) → list_all p (take (prefix_len p xs) xs) ≡ true
@@ -45,7 +42,7 @@ is_not : (c k : ℕ) → (c ≡ k → ⊥) → nat_eq c k ≡ false
 is_not c k n = grind (arith, nat_tests)
 
 -- what stands behind a number is an end of the text
-behind_number-cut : (cs : List ℕ) → (u : List ℕ) × (cs ≡ u ++ behind_number cs)
+pub behind_number-cut : (cs : List ℕ) → (u : List ℕ) × (cs ≡ u ++ behind_number cs)
 behind_number-cut cs = by (drop (prefix_len continues_word cs) cs) (sym (take-append-drop (prefix_len continues_word cs) cs))
   where
     point : (c : ℕ) (ds : List ℕ) (t : Bool) → nat_eq c 46 ≡ t → cs ≡ take (prefix_len continues_word cs) cs ++ c ∷ ds → (u : List ℕ) × (cs ≡ u ++ cond t ds (c ∷ ds))

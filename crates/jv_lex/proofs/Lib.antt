@@ -1,9 +1,11 @@
 pub mod Digits
 pub mod Tables
 pub mod Marks
+pub mod Keywords
 pub mod Literals
 pub mod FirstTokens
 pub mod Fronts
 pub mod Sources
+pub mod Texts
 pub mod Scans
 pub mod Counts

@@ -1,16 +1,15 @@
 -- The order in which marks are tried: none stands behind one that it begins with.
-use Rattle.std.proofs.Common.{◌≡◌, ℕ, zero, suc, ◌+◌, ◌<◌, ◌≤◌, ◌⊎◌, inl, inr, Bool, true, false, not, ◌&&◌, nat_eq, nat_lt, List, [], ◌∷◌, ◌++◌, length, map, get_or, position, Option, Some, None, refl, sym, ap, ◌∙◌, arith, true≢false, option_map}
-use Rattle.std.specs.List.{list_all, position_or_len, range_with_len}
+use Rattle.std.proofs.Common.{◌≡◌, ℕ, zero, suc, ◌<◌, ◌≤◌, ◌⊎◌, inl, inr, Bool, true, false, not, ◌&&◌, nat_eq, nat_lt, List, [], ◌∷◌, ◌++◌, length, map, get_or, position, Option, Some, None, refl, sym, ap, ◌∙◌, arith, true≢false, option_map}
+use Rattle.std.specs.List.{list_all, position_or_len}
 use Rattle.std.specs.Str.{bytes_eq, chars, encode_utf8_all, IsUtf8, IsAscii}
 use Rattle.std.proofs.lemmas.List.Quantifiers.{position-Some}
-use Rattle.std.proofs.lemmas.List.FromFn.{get_or-range_with_len}
 use Rattle.std.proofs.lemmas.Slice.Eq.{bytes_eq-Decides}
 use Rattle.std.proofs.lemmas.Bool.Decides.{Decides-ltb, Decides-eqb}
 use Rattle.std.proofs.lemmas.Str.{chars-append, chars-IsAscii, encodes-append, encodes-IsAscii, encodes-chars, IsUtf8-from_ascii}
 use Rattle.jv_lex.specs.Punctuation.{marks, mark_kind, HasNoMark, IsLongestMark}
-use Rattle.jv_lex.specs.declared.punctuation.TheConstants.{LONGER_FIRST}
+use Rattle.jv_lex.specs.declared.punctuation.TheConstants.{LONGER_FIRST, FIRST_PLACES}
 use Rattle.jv_lex.specs.declared.token.TokenKind.TheVariants.{Punct}
-use Rattle.jv_lex.proofs.Tables.{and_left, and_right, all_at, is_ascii, IsAscii-from_is_ascii}
+use Rattle.jv_lex.proofs.Tables.{and_left, and_right, all_at, all_below, is_ascii, IsAscii-from_is_ascii}
 
 -- the mark at a place of the order
 abbrev pub tried : ℕ → List ℕ
@@ -62,18 +61,50 @@ place_in_order o = position_or_len (λ p. nat_eq p o) LONGER_FIRST
 placed : (o : ℕ) → o < 50 → (place_in_order o < 50) × (get_or LONGER_FIRST (place_in_order o) 0 ≡ o)
 placed o l =
     let p = λ (o : ℕ). nat_lt (place_in_order o) 50 && nat_eq (get_or LONGER_FIRST (place_in_order o) 0) o in
-    let h : p (get_or (range_with_len 0 50) o 0) ≡ true = all_at p (range_with_len 0 50) o 0 refl l in
-    let k : p o ≡ true = ap p (sym (get_or-range_with_len 0 50 o 0 l ∙ zero_plus o)) ∙ h in
+    let k : p o ≡ true = all_below p 50 o refl l in
     ((Decides-ltb (place_in_order o) 50).0 (and_left _ _ k), (Decides-eqb (get_or LONGER_FIRST (place_in_order o) 0) o).0 (and_right _ _ k))
-  where
-    zero_plus : (o : ℕ) → 0 + o ≡ o
-    zero_plus o = omega arith
 
 pub small : (i : ℕ) → i < 50 → get_or LONGER_FIRST i 0 < 50
 small i l = (Decides-ltb (get_or LONGER_FIRST i 0) 50).0 (all_at (λ o. nat_lt o 50) LONGER_FIRST i 0 refl l)
 
 pub tried_ascii : (i : ℕ) → i < 50 → IsAscii (tried i)
 tried_ascii i l = IsAscii-from_is_ascii (tried i) (all_at is_ascii marks (get_or LONGER_FIRST i 0) [] refl (small i l))
+
+-- no mark stands before the place at which the marks of its first character begin
+abbrev stands_behind : ℕ → List ℕ → Bool
+stands_behind k [] = false
+stands_behind k (c ∷ w) = nat_lt c 128 && nat_lt (get_or FIRST_PLACES c 0) (suc k)
+
+stands : (k : ℕ) → k < 50 → stands_behind k (tried k) ≡ true
+stands k l = all_below (λ (k : ℕ). stands_behind k (tried k)) 50 k refl l
+
+begins_behind : (k c : ℕ) (cs rest : List ℕ) → k < 50 → c ∷ cs ≡ tried k ++ rest → (c < 128) × (get_or FIRST_PLACES c 0 ≤ k)
+begins_behind k c cs rest l e = by (tried k) (stands k l) e
+  where
+    by : (w : List ℕ) → stands_behind k w ≡ true → c ∷ cs ≡ w ++ rest → (c < 128) × (get_or FIRST_PLACES c 0 ≤ k)
+    by [] h e = absurd (true≢false (sym h))
+    by (d ∷ w) h e =
+        let same : d ≡ c = cc in
+        let at : nat_lt c 128 && nat_lt (get_or FIRST_PLACES c 0) (suc k) ≡ true = ap (λ x. nat_lt x 128 && nat_lt (get_or FIRST_PLACES x 0) (suc k)) (sym same) ∙ h in
+        let place : get_or FIRST_PLACES c 0 < suc k = (Decides-ltb (get_or FIRST_PLACES c 0) (suc k)).0 (and_right (nat_lt c 128) (nat_lt (get_or FIRST_PLACES c 0) (suc k)) at) in
+        ((Decides-ltb c 128).0 (and_left _ _ at), omega arith)
+
+-- a text begins with none of the marks before the place of its first character
+pub none_before : (text cs : List ℕ) (c place k : ℕ) (rest : List ℕ) → text ≡ c ∷ cs → c < 128 → place ≡ get_or FIRST_PLACES c 0 → k < place → text ≡ tried k ++ rest → ⊥
+none_before text cs c place k rest whole l at m e =
+    let most : get_or FIRST_PLACES c 0 < 51 = (Decides-ltb (get_or FIRST_PLACES c 0) 51).0 (all_at (λ p. nat_lt p 51) FIRST_PLACES c 0 refl l) in
+    let b = begins_behind k c cs rest (omega (arith, most, at, m)) (sym whole ∙ e) in
+    let behind = b.1 in absurd (omega arith)
+
+pub none_other : (text cs : List ℕ) (c k : ℕ) (rest : List ℕ) → text ≡ c ∷ cs → 128 ≤ c → k < 50 → text ≡ tried k ++ rest → ⊥
+none_other text cs c k rest whole l m e = let b = begins_behind k c cs rest m (sym whole ∙ e) in let low = b.0 in absurd (omega arith)
+
+pub none_empty : (k : ℕ) (rest : List ℕ) → k < 50 → [] ≡ tried k ++ rest → ⊥
+none_empty k rest l e = by (tried k) (stands k l) e
+  where
+    by : (w : List ℕ) → stands_behind k w ≡ true → [] ≡ w ++ rest → ⊥
+    by [] h e = true≢false (sym h)
+    by (d ∷ w) h e = cc
 
 -- a text that is a mark stands at some place of the order; so one that stands at none is no mark
 no_mark : (v : List ℕ) → ((j : ℕ) → j < 50 → v ≡ tried j → ⊥) → mark_kind v ≡ None
@@ -118,9 +149,7 @@ mark_kind-mark n l = rw (place, small_place) refl
     place : position_or_len (bytes_eq (get_or marks n [])) marks ≡ n
     place =
         let p = λ (o : ℕ). nat_eq (position_or_len (bytes_eq (get_or marks o [])) marks) o in
-        let h : p (get_or (range_with_len 0 50) n 0) ≡ true = all_at p (range_with_len 0 50) n 0 refl l in
-        let i : get_or (range_with_len 0 50) n 0 ≡ n = get_or-range_with_len 0 50 n 0 l ∙ omega arith in
-        (Decides-eqb (position_or_len (bytes_eq (get_or marks n [])) marks) n).0 (ap p (sym i) ∙ h)
+        (Decides-eqb (position_or_len (bytes_eq (get_or marks n [])) marks) n).0 (all_below p 50 n refl l)
 
     small_place : nat_lt n 50 ≡ true
     small_place = (Decides-ltb n 50).1 l

@@ -9,9 +9,7 @@ use Rattle.jv_lex.specs.declared.token.Token.{Token}
 use Rattle.jv_lex.specs.declared.token.TokenKind.{TokenKind}
 use Rattle.jv_lex.proofs.Fronts.{scalars-back}
 use Rattle.jv_lex.proofs.Sources.{gap_cut}
-
-some_none : {X : Type 0} {x : X} → Some x ≡ None → ⊥
-some_none h = cc
+use Rattle.jv_lex.proofs.Tables.{some_none}
 
 -- the place of what is left, by bytes
 pub place_of-chars : (total : ℕ) (rest : List ℕ) → IsUtf8 rest → place_of total (chars rest) ≡ total - length rest

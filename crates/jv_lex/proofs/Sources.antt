@@ -8,9 +8,7 @@ use Rattle.jv_lex.specs.Text.{kind_of, begins_number, IsFirstToken}
 use Rattle.jv_lex.specs.Source.{place_of, Follows, nothing, gap, token, Breaks, here, behind_gaps, behind_token}
 use Rattle.jv_lex.specs.declared.token.Token.{Token}
 use Rattle.jv_lex.specs.declared.token.TokenKind.{TokenKind}
-
-some_none : {X : Type 0} {x : X} → Some x ≡ None → ⊥
-some_none h = cc
+use Rattle.jv_lex.proofs.Tables.{some_none}
 
 -- a text has one first token
 pub record Same (w v rest more : List ℕ) (k j : TokenKind) : Type 0 where

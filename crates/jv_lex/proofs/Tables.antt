@@ -1,13 +1,17 @@
 -- Reading a table of texts, and looking a text up in it.
 use Rattle.std.proofs.Common.{◌≡◌, ℕ, zero, suc, ◌<◌, Bool, true, false, not, ◌&&◌, nat_lt, List, [], ◌∷◌, length, map, get_or, position, Some, None, Bor, refl, sym, ap, ◌∙◌, arith, true≢false}
-use Rattle.std.specs.List.{position_or_len, list_all}
+use Rattle.std.specs.List.{position_or_len, list_all, range_with_len}
 use Rattle.std.specs.Str.{bytes_eq, chars, encode_utf8_all, IsUtf8, IsAscii}
 use Rattle.std.specs.Bool.{Decides}
 use Rattle.std.proofs.lemmas.List.Sums.{prefix_len_is}
+use Rattle.std.proofs.lemmas.List.FromFn.{get_or-range_with_len, length-range_with_len}
 use Rattle.std.proofs.lemmas.Slice.Eq.{bytes_eq-Decides}
 use Rattle.std.proofs.lemmas.Str.{chars-IsAscii, encodes-IsAscii, encodes-chars}
 use Rattle.std.proofs.lemmas.Str.Ascii.{IsAscii-nil, IsAscii-cons}
 use Rattle.std.proofs.lemmas.Bool.Decides.{nat_tests, same_from_decides, Decides-ltb}
+
+pub some_none : {X : Type 0} {x : X} → Some x ≡ None → ⊥
+some_none h = cc
 
 pub now_at : (xs : List (Bor (List ℕ))) (i : ℕ) (d : Bor (List ℕ)) → (get_or xs i d).now ≡ get_or (map (λ x. x.now) xs) i d.now
 now_at [] i d = refl
@@ -27,6 +31,12 @@ pub all_at : {X : Type 0} (p : X → Bool) (xs : List X) (i : ℕ) (d : X) → l
 all_at p [] i d h l = absurd (omega arith)
 all_at p (x ∷ xs) zero d h l = and_left (p x) (list_all p xs) h
 all_at p (x ∷ xs) (suc i) d h l = all_at p xs i d (and_right (p x) (list_all p xs) h) (omega arith)
+
+-- what a test of all numbers below a bound says of each
+pub all_below : (p : ℕ → Bool) (n i : ℕ) → list_all p (range_with_len 0 n) ≡ true → i < n → p i ≡ true
+all_below p n i h l =
+    let at : get_or (range_with_len 0 n) i 0 ≡ i = omega (arith, get_or-range_with_len 0 n i 0 l) in
+    ap p (sym at) ∙ all_at p (range_with_len 0 n) i 0 h (omega (arith, length-range_with_len 0 n, l))
 
 abbrev pub is_ascii : List ℕ → Bool
 is_ascii = list_all (λ b. nat_lt b 128)

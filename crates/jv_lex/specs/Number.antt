@@ -25,18 +25,20 @@ behind_number cs = without_point (drop (prefix_len continues_word cs) cs)
 abbrev pub value : ℕ → List ℕ → ℕ
 value radix ds = fold (λ v d. v * radix + digit_value d) 0 ds
 
--- the digits that a text begins with, and what stands behind them
+-- the digits that a text begins with
 abbrev pub digits : ℕ → List ℕ → List ℕ
 digits radix w = take_while (λ c. is_digit c radix) w
 
+-- what stands behind them
 abbrev pub behind_digits : ℕ → List ℕ → List ℕ
 behind_digits radix w = drop (prefix_len (λ c. is_digit c radix) w) w
 
--- behind the digits of an `int` stands nothing, behind those of a `long` a mark, `l` or `L`
+-- a text is empty, as what stands behind the digits of an `int`
 abbrev pub is_nothing : List ℕ → Bool
 is_nothing [] = true
 is_nothing (c ∷ cs) = false
 
+-- a text is `l` or `L`, as what stands behind the digits of a `long`
 abbrev pub is_long_mark : List ℕ → Bool
 is_long_mark [] = false
 is_long_mark (c ∷ cs) = (c == 108 || c == 76) && is_nothing cs
@@ -50,15 +52,17 @@ is_decimal (d ∷ ds) = not (d == 48) || is_nothing ds
 abbrev pub up_to : ℕ → TokenKind → TokenKind → ℕ → Option TokenKind
 up_to limit kind minimum n = if nat_lt n limit then Some kind else (if n == limit then Some minimum else None)
 
+-- the kind of decimal digits and what stands behind them
 abbrev pub decimal_kind : List ℕ → List ℕ → Option TokenKind
 decimal_kind ds behind = if not (is_decimal ds) then None
     else (if is_nothing behind then up_to (2 ^ 31) Int Minimum (value 10 ds)
     else (if is_long_mark behind then up_to (2 ^ 63) Long MinimumLong (value 10 ds) else None))
 
--- a hexadecimal value of 32 or 64 bits
+-- a value below a limit
 abbrev pub below : ℕ → TokenKind → ℕ → Option TokenKind
 below limit kind n = if nat_lt n limit then Some kind else None
 
+-- the kind of hexadecimal digits, of 32 or 64 bits, and what stands behind them
 abbrev pub hexadecimal_kind : List ℕ → List ℕ → Option TokenKind
 hexadecimal_kind ds behind = if is_nothing ds then None
     else (if is_nothing behind then below (2 ^ 32) Int (value 16 ds)

@@ -12,6 +12,7 @@ is_plain quote c = not (c == quote) && not (c == 92) && not (is_line_end c)
 abbrev pub is_escape_letter : ℕ → Bool
 is_escape_letter c = list_any (λ d. c == d) (codes "btnfr\"'\\")
 
+-- an octal digit
 abbrev pub is_octal : ℕ → Bool
 is_octal c = is_digit c 8
 

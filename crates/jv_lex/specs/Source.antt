@@ -1,5 +1,5 @@
 -- The tokens of a source, and its first bad place.
-use Rattle.std.specs.Prelude.{◌≡◌, ℕ, ◌-◌, ◌<◌, Bool, true, false, List, [], ◌∷◌, length, Option, Some, None}
+use Rattle.std.specs.Prelude.{◌≡◌, ℕ, ◌-◌, ◌<◌, Bool, true, false, List, [], ◌∷◌, length, Option, Some, None, ◌⊎◌}
 use Rattle.std.specs.Str.{IsUtf8, IsValidUpTo, IsCharBoundary, chars, encode_utf8_all}
 use Rattle.jv_lex.specs.Gap.{behind_gap}
 use Rattle.jv_lex.specs.Text.{IsFirstToken, MayFollow, begins_literal}
@@ -75,3 +75,7 @@ FaultsAreOne = (bytes : List ℕ) (l m : Bool) (at bt : ℕ) → HasBad l bytes 
 -- a source that has tokens has no bad place
 abbrev pub TokensExcludeFaults : Type 0
 TokensExcludeFaults = (bytes : List ℕ) (ts : List Token) (l : Bool) (at : ℕ) → Tokenizes bytes ts → HasBad l bytes at → ⊥
+
+-- a source that is UTF-8 has a list of tokens, or a first bad place of some kind
+abbrev pub TextsHaveTokensOrAFault : Type 0
+TextsHaveTokensOrAFault = (bytes : List ℕ) → IsUtf8 bytes → ((ts : List Token) × Tokenizes bytes ts) ⊎ ((literal : Bool) × (at : ℕ) × HasBad literal bytes at)

@@ -21,10 +21,11 @@ keywords = codes "abstract" ∷ codes "assert" ∷ codes "boolean" ∷ codes "br
     ∷ codes "switch" ∷ codes "synchronized" ∷ codes "this" ∷ codes "throw" ∷ codes "throws" ∷ codes "transient" ∷ codes "try" ∷ codes "void"
     ∷ codes "volatile" ∷ codes "while" ∷ codes "true" ∷ codes "false" ∷ codes "null" ∷ []
 
--- the kind of a word: a keyword where it is one of those texts, else an identifier
+-- the kind of a word by its place among the keywords, where it has one
 abbrev pub kind_at : Option ℕ → TokenKind
 kind_at None = Ident
 kind_at (Some n) = Keyword n
 
+-- the kind of a word: a keyword where it is one of those texts, else an identifier
 abbrev pub word_kind : List ℕ → TokenKind
 word_kind w = kind_at (position (bytes_eq w) keywords)

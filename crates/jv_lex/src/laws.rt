@@ -1,6 +1,6 @@
 //! What the definitions imply: a source has one list of tokens, or one first bad place.
 
-ghost use Rattle.jv_lex.specs.Source.{TokensAreOne, FaultsAreOne, TokensExcludeFaults};
+ghost use Rattle.jv_lex.specs.Source.{TokensAreOne, FaultsAreOne, TokensExcludeFaults, TextsHaveTokensOrAFault};
 
 /// A source has at most one list of tokens.
 pub fn tokens_are_one()
@@ -15,4 +15,9 @@ pub fn faults_are_one()
 /// A source that has tokens has no bad place.
 pub fn tokens_exclude_faults()
     ensures { TokensExcludeFaults }
+{}
+
+/// A source that is UTF-8 has tokens or a bad place.
+pub fn texts_have_tokens_or_a_fault()
+    ensures { TextsHaveTokensOrAFault }
 {}
