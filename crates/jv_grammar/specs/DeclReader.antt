@@ -51,6 +51,7 @@ headed_of w xs = if starts_word w xs then names_of (length xs) (rest_of xs) else
 abbrev pub named_of : Bool → List Terminal → Reads ParamTree
 named_of f xs = ty_of xs >>= λ r. ident_of r.1 >>= λ s. Ok (record { is_final = f; ty = r.0; name = s.0 }, s.1)
 
+-- a parameter, with a `final` in front or without one
 unfoldable pub param_of : List Terminal → Reads ParamTree
 param_of xs = if starts_word word_final xs then named_of true (rest_of xs) else named_of false xs
 
@@ -101,6 +102,7 @@ method_of i n ks r xs = ident_of xs >>= λ j. params_of j.1 >>= λ q. body_in i 
 unfoldable pub typed_of : Bool → ℕ → List ℕ → List Terminal → Reads MemberTree
 typed_of i n ks xs = ty_of xs >>= λ r. if calls r.1 then method_of i n ks r.0 r.1 else field_of i n ks r.0 r.1
 
+-- fields or a method behind their modifiers; the result of a method may be `void`
 unfoldable pub plain_of : Bool → ℕ → List ℕ → List Terminal → Reads MemberTree
 plain_of i n ks (Keyword p k ∷ xs) =
     if nat_eq k word_void then method_of i n ks (record { at = p; base = void; dims = 0 }) xs else typed_of i n ks (Keyword p k ∷ xs)
@@ -141,6 +143,7 @@ behind_mods i n nest ks xs =
     else if not i && calls xs then ctor_of n ks xs
     else plain_of i n ks xs
 
+-- a member with its modifiers
 unfoldable pub member_of : Bool → ℕ → BelowType → List Terminal → Reads MemberTree
 member_of i n nest xs = behind_mods i n nest (mods_of xs).0 (mods_of xs).1
 

@@ -15,6 +15,7 @@ use Rattle.jv_grammar.specs.ExprGrammar.{DerivesExpr, DerivesInit}
 abbrev pub plus_sign : ℕ
 plus_sign = 28
 
+-- `!`
 abbrev pub not_sign : ℕ
 not_sign = 15
 
@@ -22,6 +23,7 @@ not_sign = 15
 abbrev pub name_at : ℕ → Identifier → ExprTree
 name_at at i = t.expr at (t.name (i ∷ []))
 
+-- the type `int` at a place, with so many pairs of brackets
 abbrev pub int_at : ℕ → ℕ → TypeTree
 int_at at n = record { at = at; base = int; dims = n }
 

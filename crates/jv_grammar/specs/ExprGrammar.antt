@@ -20,6 +20,7 @@ use Rattle.jv_grammar.specs.TypeGrammar.{starts, DerivesName, DerivesPrim, Deriv
 abbrev pub at_of : ExprTree → ℕ
 at_of (t.expr at kind) = at
 
+-- what an expression is
 abbrev pub kind_of : ExprTree → KindTree
 kind_of (t.expr at kind) = kind
 
@@ -44,6 +45,7 @@ is_plain (Literal p l) = true
 is_plain (Punct p o) = nat_eq o paren_open || list_any (nat_eq o) complements
 is_plain x = false
 
+-- the first terminal begins a `plain`
 abbrev pub begins_plain : List Terminal → Bool
 begins_plain [] = false
 begins_plain (x ∷ xs) = is_plain x

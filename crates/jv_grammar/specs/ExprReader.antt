@@ -32,6 +32,7 @@ abbrev pub named_on : Terminal → List Identifier × List Terminal → List Ide
 named_on (Ident i) r = (i ∷ r.0, r.1)
 named_on x r = r
 
+-- the identifiers of the longest name of a head that stand behind its first one, each behind its dot
 unfoldable pub run_of : List Terminal → List Identifier × List Terminal
 run_of [] = ([], [])
 run_of (x ∷ []) = ([], x ∷ [])
@@ -86,6 +87,7 @@ abbrev pub object_of : Below → ℕ → BaseTree → List Terminal → Reads Pa
 object_of b p (named ids) xs = args_of b.expr xs >>= λ r. Ok ((Effect, t.expr p (t.new ids r.0)), r.1)
 object_of b p base xs = Err xs
 
+-- a new array of the base, behind the base: with pairs of brackets and a list, or with sizes
 abbrev pub array_of : Below → ℕ → ℕ → BaseTree → List Terminal → Reads Parsed
 array_of b p q base xs =
     if starts_pair xs
@@ -114,6 +116,7 @@ done f e xs = Ok ((f, e), xs)
 abbrev pub super_of : Below → ℕ → List Terminal → Reads Parsed
 super_of b p xs = if starts dot xs then member_of b.expr done p t.super t.super_field (rest_of xs) else Err xs
 
+-- a head: a call or a name, a literal, `this`, what `super` or `new` begins, or an expression in parentheses
 unfoldable pub head_of : Below → List Terminal → Reads Parsed
 head_of b (Ident i ∷ xs) =
     if starts paren_open xs then (args_of b.expr xs >>= λ r. Ok ((Effect, t.expr i.at (t.call t.bare i r.0)), r.1))
@@ -139,6 +142,7 @@ suffixes_of b (suc c) f e xs =
     then member_of b.expr (suffixes_of b c) (at_of e) (t.on e) (t.field e) (rest_of xs)
     else Ok ((f, e), xs)
 
+-- a head with the fields, calls and indexes behind it
 unfoldable pub primary_of : Below → List Terminal → Reads Parsed
 primary_of b xs = head_of b xs >>= λ r. suffixes_of b (suc (length xs)) r.0.0 r.0.1 r.1
 
@@ -148,6 +152,7 @@ steps_of f e (Punct p o ∷ xs) =
     if list_any (nat_eq o) postfix_operators then steps_of Effect (t.expr (at_of e) (t.post p o e)) xs else ((f, e), Punct p o ∷ xs)
 steps_of f e xs = ((f, e), xs)
 
+-- a primary with the `++` and `--` behind it
 unfoldable pub post_of : Below → List Terminal → Reads Parsed
 post_of b xs = primary_of b xs >>= λ r. Ok (steps_of r.0.0 r.0.1 r.1)
 
@@ -173,11 +178,13 @@ cast_of b p xs = ty_of xs >>= λ r. closed paren_close r.0 r.1 >>= λ s.
 abbrev pub signed_by : Below → ℕ → ℕ → List Terminal → Reads Parsed
 signed_by b p o xs = b.unary xs >>= λ r. Ok ((Other, t.expr p (t.pre p o r.0.1)), r.1)
 
+-- what stands behind a sign, which is at p: a minimum literal, which all signs but `-` refuse, or a unary
 unfoldable pub signed_of : Below → ℕ → ℕ → List Terminal → Reads Parsed
 signed_of b p o (Minimum q ∷ xs) = if nat_eq o minus_sign then Ok ((Other, t.expr p (t.pre p o (t.expr q t.int))), xs) else Err (Minimum q ∷ xs)
 signed_of b p o (MinimumLong q ∷ xs) = if nat_eq o minus_sign then Ok ((Other, t.expr p (t.pre p o (t.expr q t.long))), xs) else Err (MinimumLong q ∷ xs)
 signed_of b p o xs = signed_by b p o xs
 
+-- a unary: `++`, `--` or a sign with what stands behind it, a cast, or a primary with the `++` and `--` behind it
 unfoldable pub unary_of : Below → List Terminal → Reads Parsed
 unary_of b (Punct p o ∷ xs) =
     if list_any (nat_eq o) postfix_operators then (b.unary xs >>= λ r. Ok ((Effect, t.expr p (t.pre p o r.0.1)), r.1))
@@ -214,6 +221,7 @@ bin_of b [] xs = unary_of b xs
 bin_of b (level ∷ tighter) xs = bin_of b tighter xs >>= λ r.
     links_of (bin_of b tighter) level (suc (length xs)) r.1 >>= λ s. Ok (chained r.0 s.0, s.1)
 
+-- operands and operators of all levels, and where a `?` stands behind them a conditional
 unfoldable pub cond_of : Below → List Terminal → Reads Parsed
 cond_of b xs = bin_of b levels xs >>= λ r.
     if starts question_mark r.1
@@ -226,10 +234,12 @@ abbrev pub assigned_to : Below → Form → ExprTree → ℕ → ℕ → List Te
 assigned_to b Target e p o xs = b.expr xs >>= λ r. Ok ((Effect, t.expr (at_of e) (t.assign p o e r.0.1)), r.1)
 assigned_to b f e p o xs = Err (Punct p o ∷ xs)
 
+-- an expression, and where an assignment operator stands behind it the assignment to it
 abbrev pub assigned_of : Below → Parsed → List Terminal → Reads Parsed
 assigned_of b r (Punct p o ∷ xs) = if list_any (nat_eq o) assignment_operators then assigned_to b r.0 r.1 p o xs else Ok (r, Punct p o ∷ xs)
 assigned_of b r xs = Ok (r, xs)
 
+-- an expression: a conditional or an assignment
 unfoldable pub expr_of : Below → List Terminal → Reads Parsed
 expr_of b xs = cond_of b xs >>= λ r. assigned_of b r.0 r.1
 

@@ -25,9 +25,11 @@ IsNoFile xs = (u : UnitTree) → Derives xs u → ⊥
 abbrev pub in_class : Identifier → ℕ → List Terminal → List Terminal
 in_class a p xs = Keyword p word_class ∷ Ident a ∷ Punct p brace_open ∷ (xs ++ Punct p brace_close ∷ [])
 
+-- `interface a { .. }`, with marks at p
 abbrev pub in_interface : Identifier → ℕ → List Terminal → List Terminal
 in_interface a p xs = Keyword p word_interface ∷ Ident a ∷ Punct p brace_open ∷ (xs ++ Punct p brace_close ∷ [])
 
+-- the tree of a file with nothing but a class a, or an interface a where the flag says so, with these members
 abbrev pub file_with : Bool → Identifier → MemberTrees → UnitTree
 file_with i a ms = record { package_name = None; imports = []; types = t.type_decl a [] i [] [] ms ∷ [] }
 
@@ -35,9 +37,11 @@ file_with i a ms = record { package_name = None; imports = []; types = t.type_de
 abbrev pub parens : ℕ → List Terminal
 parens p = Punct p paren_open ∷ Punct p paren_close ∷ []
 
+-- a variable without an initializer
 abbrev pub var_alone : Identifier → VarTree
 var_alone i = record { name = i; init = None }
 
+-- the result `void` at a place
 abbrev pub void_at : ℕ → TypeTree
 void_at at = record { at = at; base = void; dims = 0 }
 

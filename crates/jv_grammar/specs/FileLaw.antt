@@ -36,5 +36,6 @@ ShallowFilesHaveFewPairs = (xs : List Terminal) (u : UnitTree) (d : Derives xs u
 abbrev pub ReadersFindShallowTrees : Type 0
 ReadersFindShallowTrees = (xs : List Terminal) (n : ℕ) (u : UnitTree) → IsShallow xs → length xs ≤ n → Derives xs u → file_of n xs ≡ Ok u
 
+-- shallow terminals derive at most one file
 abbrev pub ShallowFilesDeriveOnce : Type 0
 ShallowFilesDeriveOnce = (xs : List Terminal) (u v : UnitTree) → IsShallow xs → Derives xs u → Derives xs v → u ≡ v

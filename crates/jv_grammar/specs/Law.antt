@@ -21,6 +21,7 @@ ExpressionsDeriveOnce = (xs : List Terminal) (f g : Form) (e o : ExprTree) → I
 abbrev pub InitializersDeriveOnce : Type 0
 InitializersDeriveOnce = (xs : List Terminal) (i j : InitTree) → IsShallow xs → DerivesInit i xs [] → DerivesInit j xs [] → i ≡ j
 
+-- shallow terminals derive at most one type
 abbrev pub TypesDeriveOnce : Type 0
 TypesDeriveOnce = (xs : List Terminal) (r s : TypeTree) → IsShallow xs → DerivesTy r xs [] → DerivesTy s xs [] → r ≡ s
 
@@ -28,6 +29,7 @@ TypesDeriveOnce = (xs : List Terminal) (r s : TypeTree) → IsShallow xs → Der
 abbrev pub read_expr : Form → ExprTree → Reads Parsed
 read_expr f e = Ok ((f, e), [])
 
+-- an initializer that is read where nothing is left
 abbrev pub read_init : InitTree → Reads InitTree
 read_init i = Ok (i, [])
 
@@ -35,6 +37,7 @@ read_init i = Ok (i, [])
 abbrev pub ReadersFindExpressions : Type 0
 ReadersFindExpressions = (xs : List Terminal) (n : ℕ) (f : Form) (e : ExprTree) → IsShallow xs → length xs ≤ n → DerivesExpr f e xs [] → expr_of (below n) xs ≡ read_expr f e
 
+-- the initializer that shallow terminals derive is what the reader gives, where it may nest as deep as there are terminals
 abbrev pub ReadersFindInitializers : Type 0
 ReadersFindInitializers = (xs : List Terminal) (n : ℕ) (i : InitTree) → IsShallow xs → length xs ≤ n → DerivesInit i xs [] → init_of (below n) xs ≡ read_init i
 
@@ -42,9 +45,11 @@ ReadersFindInitializers = (xs : List Terminal) (n : ℕ) (i : InitTree) → IsSh
 abbrev pub ReadExpressionsDerive : Type 0
 ReadExpressionsDerive = (xs : List Terminal) (n : ℕ) (r : Parsed × List Terminal) → expr_of (below n) xs ≡ Ok r → DerivesExpr r.0.0 r.0.1 xs r.1 × IsShapedExpr r.0.1
 
+-- an initializer that the reader gives derives from the terminals before those that are left, and has the shape of the grammar
 abbrev pub ReadInitializersDerive : Type 0
 ReadInitializersDerive = (xs : List Terminal) (n : ℕ) (r : InitTree × List Terminal) → init_of (below n) xs ≡ Ok r → DerivesInit r.0 xs r.1 × IsShapedInit r.0
 
+-- a type that the reader gives derives from the terminals before those that are left, and has the shape of the grammar
 abbrev pub ReadTypesDerive : Type 0
 ReadTypesDerive = (xs : List Terminal) (r : TypeTree × List Terminal) → ty_of xs ≡ Ok r → DerivesTy r.0 xs r.1 × IsType r.0
 
@@ -52,5 +57,6 @@ ReadTypesDerive = (xs : List Terminal) (r : TypeTree × List Terminal) → ty_of
 abbrev pub DerivedExpressionsAreShaped : Type 0
 DerivedExpressionsAreShaped = (xs ys : List Terminal) (f : Form) (e : ExprTree) → IsShallow xs → DerivesExpr f e xs ys → IsShapedExpr e
 
+-- an expression that derives as an effect may stand as a statement
 abbrev pub DerivedEffectsAreEffects : Type 0
 DerivedEffectsAreEffects = (xs ys : List Terminal) (e : ExprTree) → DerivesExpr Effect e xs ys → IsEffect e

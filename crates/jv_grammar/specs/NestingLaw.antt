@@ -23,12 +23,15 @@ use Rattle.jv_grammar.specs.Load.{loads_of, IsShallow}
 abbrev pub TypesHaveFewPairs : Type 0
 TypesHaveFewPairs = (xs ys : List Terminal) (r : TypeTree) (d : DerivesTy r xs ys) → IsShallow xs → wide_ty d ≤ 200
 
+-- no type in an expression that derives from a front of shallow terminals has more than 200 pairs of brackets
 abbrev pub ExpressionsHaveFewPairs : Type 0
 ExpressionsHaveFewPairs = (xs ys : List Terminal) (f : Form) (e : ExprTree) (d : DerivesExpr f e xs ys) → IsShallow xs → wide_expr d ≤ 200
 
+-- no type in an initializer that derives from a front of shallow terminals has more than 200 pairs of brackets
 abbrev pub InitializersHaveFewPairs : Type 0
 InitializersHaveFewPairs = (xs ys : List Terminal) (i : InitTree) (d : DerivesInit i xs ys) → IsShallow xs → wide_init d ≤ 200
 
+-- no type in a statement that derives from a front of shallow terminals has more than 200 pairs of brackets
 abbrev pub StatementsHaveFewPairs : Type 0
 StatementsHaveFewPairs = (xs ys : List Terminal) (x : StmtTree) (d : DerivesStmt x xs ys) → IsShallow xs → wide_stmt d ≤ 200
 
@@ -40,12 +43,15 @@ AreLoadsAtMost most xs = (i load : ℕ) → slice_get (loads_of xs) i ≡ Some l
 abbrev pub ExpressionsAreNotDeep : Type 0
 ExpressionsAreNotDeep = (xs ys : List Terminal) (most : ℕ) (f : Form) (e : ExprTree) (d : DerivesExpr f e xs ys) → AreLoadsAtMost most xs → deep_expr d ≤ 2 * most
 
+-- an initializer that derives from a front of terminals nests at most twice as deep as their highest load says
 abbrev pub InitializersAreNotDeep : Type 0
 InitializersAreNotDeep = (xs ys : List Terminal) (most : ℕ) (i : InitTree) (d : DerivesInit i xs ys) → AreLoadsAtMost most xs → deep_init d ≤ 2 * most
 
+-- a statement that derives from a front of terminals nests at most twice as deep as their highest load says
 abbrev pub StatementsAreNotDeep : Type 0
 StatementsAreNotDeep = (xs ys : List Terminal) (most : ℕ) (x : StmtTree) (d : DerivesStmt x xs ys) → AreLoadsAtMost most xs → deep_stmt d ≤ 2 * most
 
+-- a file that derives from terminals nests at most twice as deep as their highest load says
 abbrev pub FilesAreNotDeep : Type 0
 FilesAreNotDeep = (xs : List Terminal) (most : ℕ) (u : UnitTree) (d : Derives xs u) → AreLoadsAtMost most xs → deep_file d ≤ 2 * most
 
@@ -53,12 +59,15 @@ FilesAreNotDeep = (xs : List Terminal) (most : ℕ) (u : UnitTree) (d : Derives 
 abbrev pub ExpressionsNestByTheLoad : Type 0
 ExpressionsNestByTheLoad = (xs : List Terminal) (most n : ℕ) (f : Form) (e : ExprTree) → IsShallow xs → AreLoadsAtMost most xs → 2 * most ≤ n → DerivesExpr f e xs [] → expr_of (below n) xs ≡ read_expr f e
 
+-- readers that may nest twice as deep as the highest load of shallow terminals give the initializer that derives from them
 abbrev pub InitializersNestByTheLoad : Type 0
 InitializersNestByTheLoad = (xs : List Terminal) (most n : ℕ) (i : InitTree) → IsShallow xs → AreLoadsAtMost most xs → 2 * most ≤ n → DerivesInit i xs [] → init_of (below n) xs ≡ read_init i
 
+-- readers that may nest twice as deep as the highest load of shallow terminals give the statement that derives from a front of them
 abbrev pub StatementsNestByTheLoad : Type 0
 StatementsNestByTheLoad = (xs ys : List Terminal) (most n : ℕ) (x : StmtTree) → IsShallow xs → AreLoadsAtMost most xs → 2 * most ≤ n → DerivesStmt x xs ys → stmt_of n xs ≡ Ok (x, ys)
 
+-- readers that may nest twice as deep as the highest load of shallow terminals give the file that derives from them
 abbrev pub FilesNestByTheLoad : Type 0
 FilesNestByTheLoad = (xs : List Terminal) (most n : ℕ) (u : UnitTree) → IsShallow xs → AreLoadsAtMost most xs → 2 * most ≤ n → Derives xs u → file_of n xs ≡ Ok u
 
@@ -66,11 +75,14 @@ FilesNestByTheLoad = (xs : List Terminal) (most n : ℕ) (u : UnitTree) → IsSh
 abbrev pub FewLevelsReadExpressions : Type 0
 FewLevelsReadExpressions = (xs : List Terminal) (n : ℕ) (f : Form) (e : ExprTree) → IsShallow xs → 400 ≤ n → DerivesExpr f e xs [] → expr_of (below n) xs ≡ read_expr f e
 
+-- readers that may nest 400 levels deep give the initializer that derives from shallow terminals
 abbrev pub FewLevelsReadInitializers : Type 0
 FewLevelsReadInitializers = (xs : List Terminal) (n : ℕ) (i : InitTree) → IsShallow xs → 400 ≤ n → DerivesInit i xs [] → init_of (below n) xs ≡ read_init i
 
+-- readers that may nest 400 levels deep give the statement that derives from a front of shallow terminals
 abbrev pub FewLevelsReadStatements : Type 0
 FewLevelsReadStatements = (xs ys : List Terminal) (n : ℕ) (x : StmtTree) → IsShallow xs → 400 ≤ n → DerivesStmt x xs ys → stmt_of n xs ≡ Ok (x, ys)
 
+-- readers that may nest 400 levels deep give the file that derives from shallow terminals
 abbrev pub FewLevelsReadFiles : Type 0
 FewLevelsReadFiles = (xs : List Terminal) (n : ℕ) (u : UnitTree) → IsShallow xs → 400 ≤ n → Derives xs u → file_of n xs ≡ Ok u

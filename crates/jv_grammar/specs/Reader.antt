@@ -4,6 +4,7 @@ use Rattle.jv_grammar.specs.declared.terminal.Terminal.{Terminal}
 use Rattle.jv_grammar.specs.declared.terminal.Terminal.TheVariants.{Ident}
 use Rattle.jv_grammar.specs.TypeGrammar.{starts}
 
+-- what reading gives: a result with the terminals behind it, or the terminals from the refused one on
 abbrev pub Reads : Type 0 → Type 0
 Reads A = Result (A × List Terminal) (List Terminal)
 
@@ -13,6 +14,7 @@ abbrev pub ◌>>=◌ : {A B : Type 0} → Result A (List Terminal) → (A → Re
 (Ok x) >>= f = f x
 (Err e) >>= f = Err e
 
+-- the terminals behind the first one
 abbrev pub rest_of : List Terminal → List Terminal
 rest_of [] = []
 rest_of (x ∷ xs) = xs

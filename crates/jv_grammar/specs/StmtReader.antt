@@ -26,6 +26,7 @@ pub record BelowStmt : Type 0 where
 abbrev pub behind : ℕ → List Terminal → Result (List Terminal) (List Terminal)
 behind n xs = if starts n xs then Ok (rest_of xs) else Err xs
 
+-- what stands behind the keyword n
 abbrev pub behind_word : ℕ → List Terminal → Result (List Terminal) (List Terminal)
 behind_word n xs = if starts_word n xs then Ok (rest_of xs) else Err xs
 
@@ -36,6 +37,7 @@ init_for b i xs =
     then (init_of b (rest_of xs) >>= λ r. Ok (record { name = i; init = Some r.0 }, r.1))
     else Ok (record { name = i; init = None }, xs)
 
+-- a variable: its identifier, and its initializer where an `=` stands behind it
 unfoldable pub var_by : Below → List Terminal → Reads VarTree
 var_by b (Ident i ∷ xs) = init_for b i xs
 var_by b xs = Err xs
@@ -48,6 +50,7 @@ vars_up_to b (suc c) xs = var_by b xs >>= λ r.
     then (vars_up_to b c (rest_of r.1) >>= λ q. Ok (r.0 ∷ q.0, q.1))
     else Ok (r.0 ∷ [], r.1)
 
+-- variables with commas between them
 unfoldable pub vars_by : Below → List Terminal → Reads (List VarTree)
 vars_by b xs = vars_up_to b (length xs) xs
 
@@ -55,9 +58,11 @@ vars_by b xs = vars_up_to b (length xs) xs
 unfoldable pub final_by : Below → ℕ → List Terminal → Reads StmtTree
 final_by b p xs = ty_of xs >>= λ r. vars_by b r.1 >>= λ q. Ok (s.stmt p (s.local true r.0 q.0), q.1)
 
+-- local variables without a `final`
 unfoldable pub plain_by : Below → List Terminal → Reads StmtTree
 plain_by b xs = ty_of xs >>= λ r. vars_by b r.1 >>= λ q. Ok (s.stmt r.0.at (s.local false r.0 q.0), q.1)
 
+-- local variables, with a `final` in front or without one
 unfoldable pub local_by : Below → List Terminal → Reads StmtTree
 local_by b (Keyword p k ∷ xs) = if nat_eq k word_final then final_by b p xs else plain_by b (Keyword p k ∷ xs)
 local_by b xs = plain_by b xs
@@ -71,6 +76,7 @@ abbrev pub is_effect : Form → Bool
 is_effect Effect = true
 is_effect f = false
 
+-- an effect; of any other expression what stands behind it is refused
 unfoldable pub effect_by : Below → List Terminal → Reads ExprTree
 effect_by b xs = expr_of b xs >>= λ r. if is_effect r.0.0 then Ok (r.0.1, r.1) else Err r.1
 
@@ -82,6 +88,7 @@ effects_up_to b (suc c) xs = effect_by b xs >>= λ r.
     then (effects_up_to b c (rest_of r.1) >>= λ q. Ok (t.exprs r.0 q.0, q.1))
     else Ok (t.exprs r.0 t.no_exprs, r.1)
 
+-- effects with commas between them
 unfoldable pub effects_by : Below → List Terminal → Reads ExprTrees
 effects_by b xs = effects_up_to b (length xs) xs
 
@@ -122,9 +129,11 @@ if_by b l p xs = paren_by b xs >>= λ r. l.stmt r.1 >>= λ q.
     then (l.stmt (rest_of q.1) >>= λ u. Ok (s.stmt p (if_else_kind r.0 q.0 u.0), u.1))
     else Ok (s.stmt p (s.if_else (s.branches r.0 q.0 s.no_branches) s.no_else), q.1)
 
+-- a `while` behind its keyword, which is at p
 unfoldable pub while_by : Below → BelowStmt → ℕ → List Terminal → Reads StmtTree
 while_by b l p xs = paren_by b xs >>= λ r. l.stmt r.1 >>= λ q. Ok (s.stmt p (s.while_loop r.0 q.0), q.1)
 
+-- a `do` behind its keyword, which is at p, up to the `;` behind its condition
 unfoldable pub do_by : Below → BelowStmt → ℕ → List Terminal → Reads StmtTree
 do_by b l p xs = l.stmt xs >>= λ r. behind_word word_while r.1 >>= λ ys. paren_by b ys >>= λ q. closed semicolon (s.stmt p (s.do_loop r.0 q.0)) q.1
 
@@ -134,15 +143,18 @@ pub record ForHead : Type 0 where
   pub condition : Option ExprTree
   pub updates : ExprTrees
 
+-- the head of a `for`, with its parentheses
 unfoldable pub for_head_by : Below → List Terminal → Reads ForHead
 for_head_by b xs = behind paren_open xs >>= λ ys.
     first_by b ys >>= λ r. behind semicolon r.1 >>= λ zs.
     optional_by b zs >>= λ q. behind semicolon q.1 >>= λ ws.
     updates_by b ws >>= λ u. closed paren_close (record { first = r.0; condition = q.0; updates = u.0 }) u.1
 
+-- a `for` behind its keyword, which is at p
 unfoldable pub for_by : Below → BelowStmt → ℕ → List Terminal → Reads StmtTree
 for_by b l p xs = for_head_by b xs >>= λ r. l.stmt r.1 >>= λ q. Ok (s.stmt p (s.for_loop r.0.first r.0.condition r.0.updates q.0), q.1)
 
+-- a `return` behind its keyword, which is at p
 unfoldable pub return_by : Below → ℕ → List Terminal → Reads StmtTree
 return_by b p xs = optional_by b xs >>= λ r. closed semicolon (s.stmt p (s.return r.0)) r.1
 
@@ -158,6 +170,7 @@ word_by b l p k xs =
     else if nat_eq k word_continue then closed semicolon (s.stmt p s.continue) xs
     else effect_stmt_by b (Keyword p k ∷ xs)
 
+-- a statement: what a keyword begins, a block, a `;` alone, or an effect
 unfoldable pub stmt_by : Below → BelowStmt → List Terminal → Reads StmtTree
 stmt_by b l (Keyword p k ∷ xs) = word_by b l p k xs
 stmt_by b l (Punct p o ∷ xs) =
@@ -182,6 +195,7 @@ bstmts_up_to b l (suc c) xs =
     if ends_block xs then Ok (s.no_stmts, xs)
     else (bstmt_by b l xs >>= λ r. bstmts_up_to b l c r.1 >>= λ q. Ok (s.stmts r.0 q.0, q.1))
 
+-- statements of a block up to a `}` or the end
 unfoldable pub bstmts_by : Below → BelowStmt → List Terminal → Reads StmtTrees
 bstmts_by b l xs = bstmts_up_to b l (suc (length xs)) xs
 
@@ -194,14 +208,18 @@ below_stmt (suc n) = record { stmt = stmt_by (below n) (below_stmt n); bstmts = 
 abbrev pub vars_of : ℕ → List Terminal → Reads (List VarTree)
 vars_of n = vars_by (below n)
 
+-- local variables that nest at most n deep
 abbrev pub local_of : ℕ → List Terminal → Reads StmtTree
 local_of n = local_by (below n)
 
+-- a block that nests at most n deep, with where it starts
 abbrev pub block_of : ℕ → List Terminal → Reads (ℕ × StmtTrees)
 block_of n = block_by (below_stmt n)
 
+-- statements of a block that nest at most n deep
 abbrev pub bstmts_of : ℕ → List Terminal → Reads StmtTrees
 bstmts_of n = bstmts_by (below n) (below_stmt n)
 
+-- a statement that nests at most n deep
 abbrev pub stmt_of : ℕ → List Terminal → Reads StmtTree
 stmt_of n = stmt_by (below n) (below_stmt n)

@@ -22,6 +22,7 @@ abbrev pub starts : ℕ → List Terminal → Bool
 starts n [] = false
 starts n (x ∷ xs) = is_mark n x
 
+-- the first terminal is the keyword n
 abbrev pub starts_word : ℕ → List Terminal → Bool
 starts_word n [] = false
 starts_word n (x ∷ xs) = is_word n x

@@ -27,6 +27,7 @@ abbrev pub prim_or : ℕ → ℕ → List Terminal → Option BaseTree → Reads
 prim_or p k xs None = Err (Keyword p k ∷ xs)
 prim_or p k xs (Some b) = Ok ((p, b), xs)
 
+-- a type without its brackets, with where it starts
 unfoldable pub base_of : List Terminal → Reads (ℕ × BaseTree)
 base_of (Keyword p k ∷ xs) = prim_or p k xs (prim_of k)
 base_of (Ident i ∷ xs) = name_of (Ident i ∷ xs) >>= λ r. Ok ((i.at, named r.0), r.1)
@@ -44,6 +45,7 @@ pairs_of (suc room) xs =
 unfoldable pub ty_of : List Terminal → Reads TypeTree
 ty_of xs = base_of xs >>= λ r. pairs_of 200 r.1 >>= λ s. Ok (record { at = r.0.0; base = r.0.1; dims = s.0 }, s.1)
 
+-- a type without its brackets is a name
 abbrev pub is_named : BaseTree → Bool
 is_named (named ids) = true
 is_named b = false

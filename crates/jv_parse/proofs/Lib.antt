@@ -1,7 +1,5 @@
 pub mod AddedNames
 pub mod Answered
-pub mod BlockTurns
-pub mod BranchTurns
 pub mod CommaTurns
 pub mod DeclIdentifiers
 pub mod ExprNumbers
@@ -15,4 +13,3 @@ pub mod MemberTurns
 pub mod ModifierTurns
 pub mod Numbers
 pub mod StmtIdentifiers
-pub mod VariableTurns

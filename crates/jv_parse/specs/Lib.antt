@@ -1,5 +1,4 @@
 pub mod Naming
 pub mod Identifiers
 pub mod Parse
-pub mod StmtView
 pub mod DeclView

@@ -13,6 +13,7 @@ use Rattle.jv_grammar.specs.declared.terminal.Terminal.TheVariants as t
 abbrev pub text_of : List ℕ → Token → List ℕ
 text_of source x = slice_range source x.start x.end
 
+-- whether a token is an identifier
 abbrev pub is_identifier : TokenKind → Bool
 is_identifier k.Ident = true
 is_identifier (k.Keyword n) = false

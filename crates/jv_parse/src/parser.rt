@@ -11,7 +11,7 @@ ghost use Rattle.jv_parse.specs.declared.parse_fault.ParseFault.TheVariants.{Too
 ghost use Rattle.jv_parse.specs.Naming.{names_with};
 ghost use Rattle.jv_parse.specs.Parse.{terminals_of, IsTreeOf, HasNoTree, Says, IsAnswered, AddsNames};
 
-use crate::files::file;
+use crate::declarations::files::file;
 use crate::naming::name_tokens;
 use crate::parse_fault::ParseFault;
 use jv_grammar::laws::{

@@ -54,16 +54,19 @@ Skips (Some r) read = past read ≡ Some r.now
 abbrev pub headed : Identifier → List Identifier × List Terminal → Reads (List Identifier)
 headed i r = Ok (i ∷ r.0, r.1)
 
--- an operator of the level with its operand, if one stands first
+-- an operator with its place, its number and its operand
 abbrev pub Link : Type 0
 Link = ℕ × ℕ × OperandTree
 
+-- no operator stands first
 abbrev pub no_link : List Terminal → Reads (Option Link)
 no_link xs = Ok (None, xs)
 
+-- an operator with its operand stands first, and these terminals behind it
 abbrev pub some_link : ℕ → ℕ → OperandTree → List Terminal → Reads (Option Link)
 some_link p o x ys = Ok (Some (p, o, x), ys)
 
+-- an operator of the level with its operand, if one stands first
 abbrev pub link_of : (List Terminal → Reads Parsed) → List ℕ → List Terminal → Reads (Option Link)
 link_of operand level (Punct p o ∷ xs) = if is_mark_of level o then (operand xs >>= λ r. some_link p o (t.operand r.0.1) r.1) else no_link (Punct p o ∷ xs)
 link_of operand level (Keyword p k ∷ xs) =
@@ -72,10 +75,11 @@ link_of operand level (Keyword p k ∷ xs) =
     else no_link (Keyword p k ∷ xs)
 link_of operand level xs = no_link xs
 
--- the level of a number, from 0 for the loosest, and the levels that bind tighter
+-- the operators of the level of a number, from 0 for the loosest
 abbrev pub level_at : ℕ → List ℕ
 level_at k = get_or levels k []
 
+-- the levels that bind tighter than that of a number
 abbrev pub tighter_than : ℕ → List (List ℕ)
 tighter_than k = drop (k + 1) levels
 
@@ -83,10 +87,11 @@ tighter_than k = drop (k + 1) levels
 abbrev pub link_tree : ℕ × ℕ × Operand → Link
 link_tree l = (l.0, l.1, operand_tree l.2)
 
--- a field, a call or an index behind an expression, with its form, or the expression itself
+-- an expression, with its form if a field, a call or an index was read behind it
 abbrev pub Suffixed : Type 0
 Suffixed = Option Form × ExprTree
 
+-- an expression with the field, the call or the index behind it, or the expression itself
 abbrev pub suffix_of : Below → ExprTree → List Terminal → Reads Suffixed
 suffix_of b e xs =
     if starts bracket_open xs

@@ -13,11 +13,13 @@ use Rattle.jv_tree.specs.TypeTree.{TypeTree, ids_of, type_tree}
 use Rattle.jv_tree.specs.ExprTree.{ExprTrees, expr_trees}
 use Rattle.jv_tree.specs.StmtTree.{VarTree, StmtTrees, var_trees, stmt_trees}
 
+-- a parameter: whether it is `final`, its type and its name
 pub record ParamTree : Type 0 where
   pub is_final : Bool
   pub ty : TypeTree
   pub name : Ident
 
+-- a method: the numbers of its modifiers, its result, its name, its parameters, and its body, where it has one
 pub record MethodTree : Type 0 where
   pub mods : List ℕ
   pub result : TypeTree
@@ -38,42 +40,51 @@ mutual
   pub data TypeDeclTree : Type 0 where
     type_decl : Ident → List ℕ → Bool → List (List Ident) → List (List Ident) → MemberTrees → TypeDeclTree
 
+  -- a member: a nested type, fields of one type, a method or a constructor
   pub data MemberTree : Type 0 where
     nested : TypeDeclTree → MemberTree
     field : List ℕ → TypeTree → List VarTree → MemberTree
     method : MethodTree → MemberTree
     ctor : CtorTree → MemberTree
 
+  -- members one after another
   pub data MemberTrees : Type 0 where
     no_members : MemberTrees
     members : MemberTree → MemberTrees → MemberTrees
 
+-- an import: its name, and whether it imports all that stands under it
 pub record ImportTree : Type 0 where
   pub name : List Ident
   pub all : Bool
 
+-- a file: its package, where it names one, its imports, and the types that it declares
 pub record UnitTree : Type 0 where
   pub package_name : Option (List Ident)
   pub imports : List ImportTree
   pub types : List TypeDeclTree
 
+-- the pure tree of a parameter
 abbrev pub param_tree : Param → ParamTree
 param_tree p = record { is_final = p.is_final; ty = type_tree p.ty; name = p.name }
 
+-- the pure tree of a method
 abbrev pub method_tree : Method → MethodTree
 method_tree m = record { mods = m.mods.words.items; result = type_tree m.result; name = m.name; params = map param_tree m.params.items; body = option_map (λ b. stmt_trees b.items) m.body }
 
+-- the pure tree of a constructor
 abbrev pub ctor_tree : Ctor → CtorTree
 ctor_tree c = record { mods = c.mods.words.items; name = c.name; params = map param_tree c.params.items; call = option_map (λ x. (x.0, expr_trees x.1.items)) c.call; body = stmt_trees c.body.items }
 
 -- the pure tree of a member, and of its parts
 abbrev mutual
+  -- the pure tree of a member
   pub member_tree : Member → MemberTree
   member_tree (Nested' n ms i es is shape xs) = nested (type_decl n ms.words.items i (map ids_of es.items) (map ids_of is.items) (member_row_trees xs))
   member_tree (Field ms t vs) = field ms.words.items (type_tree t) (var_trees vs.items)
   member_tree (MethodMember m) = method (method_tree m)
   member_tree (CtorMember c) = ctor (ctor_tree c)
 
+  -- the pure trees of the members of a nested type
   pub member_row_trees : {n : _} → Row_of-Member n → MemberTrees
   member_row_trees end_of-Member = no_members
   member_row_trees (more_of-Member x xs) = members (member_tree x) (member_row_trees xs)
@@ -87,8 +98,10 @@ member_trees (x ∷ xs) = members (member_tree x) (member_trees xs)
 abbrev pub type_decl_tree : TypeDecl → TypeDeclTree
 type_decl_tree d = type_decl d.name d.mods.words.items d.interface (map ids_of d.extends.items) (map ids_of d.implements.items) (member_trees d.members.items)
 
+-- the pure tree of an import
 abbrev pub import_tree : Import → ImportTree
 import_tree i = record { name = ids_of i.name; all = i.all }
 
+-- the pure tree of a file
 abbrev pub tree_of : File → UnitTree
 tree_of u = record { package_name = option_map ids_of u.package; imports = map import_tree u.imports.items; types = map type_decl_tree u.types.items }

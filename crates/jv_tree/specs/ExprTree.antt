@@ -13,6 +13,7 @@ mutual
   pub data ExprTree : Type 0 where
     expr : ℕ → KindTree → ExprTree
 
+  -- what an expression is; `pre`, `post` and `assign` begin with the place of their operator and its number
   pub data KindTree : Type 0 where
     int : KindTree
     long : KindTree
@@ -47,6 +48,7 @@ mutual
     operand : ExprTree → OperandTree
     of_type : TypeTree → OperandTree
 
+  -- an initializer: an expression, or a list in braces with the place where it starts
   pub data InitTree : Type 0 where
     one : ExprTree → InitTree
     list : ℕ → InitTrees → InitTree
@@ -56,16 +58,19 @@ mutual
     no_exprs : ExprTrees
     exprs : ExprTree → ExprTrees → ExprTrees
 
+  -- initializers one after another
   pub data InitTrees : Type 0 where
     no_inits : InitTrees
     inits : InitTree → InitTrees → InitTrees
 
+  -- links of a chain one after another: the place of an operator, its number, and what stands behind it
   pub data LinkTrees : Type 0 where
     no_links : LinkTrees
     links : ℕ → ℕ → OperandTree → LinkTrees → LinkTrees
 
 -- the pure tree of what an expression of the code is, and of its parts
 abbrev mutual
+  -- the pure tree of what an expression is
   pub kind_tree : ExprKind → KindTree
   kind_tree Int = int
   kind_tree Long = long
@@ -89,27 +94,33 @@ abbrev mutual
   kind_tree (Cond' p at x q at' y r at'' z) = choice (expr at (kind_tree x)) (expr at' (kind_tree y)) (expr at'' (kind_tree z))
   kind_tree (Assign' at op p at' x q at'' y) = assign at op (expr at' (kind_tree x)) (expr at'' (kind_tree y))
 
+  -- the pure tree of what stands in front of the name of a method
   pub target_tree : Target → TargetTree
   target_tree Bare = bare
   target_tree (On' p at x) = on (expr at (kind_tree x))
   target_tree Super = super
 
+  -- the pure tree of what stands behind an operator of a chain
   pub operand_tree : Operand → OperandTree
   operand_tree (Expr' at x) = operand (expr at (kind_tree x))
   operand_tree (Of t) = of_type (type_tree t)
 
+  -- the pure tree of an initializer
   pub init_tree : Init → InitTree
   init_tree (One' at x) = one (expr at (kind_tree x))
   init_tree (List' at shape xs) = list at (init_row_trees xs)
 
+  -- the pure trees of the arguments of a call or `new`, or of the sizes of a new array
   pub row_trees : {n : _} → Row_of-Expr n → ExprTrees
   row_trees end_of-Expr = no_exprs
   row_trees (more_of-Expr at x xs) = exprs (expr at (kind_tree x)) (row_trees xs)
 
+  -- the pure trees of the elements of a list in braces
   pub init_row_trees : {n : _} → Row_of-Init n → InitTrees
   init_row_trees end_of-Init = no_inits
   init_row_trees (more_of-Init x xs) = inits (init_tree x) (init_row_trees xs)
 
+  -- the pure trees of the links of a chain
   pub link_row_trees : {n : _} → Row_of-ExprKind-Chain-1-3 n → LinkTrees
   link_row_trees end_of-ExprKind-Chain-1-3 = no_links
   link_row_trees (more_of-ExprKind-Chain-1-3 at op x xs) = links at op (operand_tree x) (link_row_trees xs)
@@ -123,10 +134,12 @@ abbrev pub expr_trees : List Expr → ExprTrees
 expr_trees [] = no_exprs
 expr_trees (x ∷ xs) = exprs (expr_tree x) (expr_trees xs)
 
+-- the pure trees of initializers
 abbrev pub init_trees : List Init → InitTrees
 init_trees [] = no_inits
 init_trees (x ∷ xs) = inits (init_tree x) (init_trees xs)
 
+-- the pure trees of links: the place of an operator, its number, and what stands behind it
 abbrev pub link_trees : List (ℕ × ℕ × Operand) → LinkTrees
 link_trees [] = no_links
 link_trees (x ∷ xs) = links x.0 x.1 (operand_tree x.2) (link_trees xs)

@@ -43,9 +43,11 @@ IsReference t = IsType t × ((0 < t.dims) ⊎ ((ids : List Ident) × (t.base ≡
 abbrev pub prefix_operators : List ℕ
 prefix_operators = 28 ∷ 29 ∷ 26 ∷ 27 ∷ 15 ∷ 16 ∷ []
 
+-- the numbers of the operators `++ --`
 abbrev pub postfix_operators : List ℕ
 postfix_operators = 26 ∷ 27 ∷ []
 
+-- the numbers of `=` and of the operators that end with it
 abbrev pub assignment_operators : List ℕ
 assignment_operators = 12 ∷ 39 ∷ 40 ∷ 41 ∷ 42 ∷ 43 ∷ 44 ∷ 45 ∷ 46 ∷ 47 ∷ 48 ∷ 49 ∷ []
 
@@ -80,9 +82,11 @@ HasLinks e.no_links = ⊥
 HasLinks (e.links at o x xs) = Unit {0}
 
 abbrev mutual
+  -- the expression has the shape of the grammar
   pub IsShapedExpr : ExprTree → Type 0
   IsShapedExpr (e.expr at k) = IsShapedKind k
 
+  -- what an expression is has the shape of the grammar: its names, operators, types, left side and parts
   pub IsShapedKind : KindTree → Type 0
   IsShapedKind e.int = Unit {0}
   IsShapedKind e.long = Unit {0}
@@ -106,19 +110,23 @@ abbrev mutual
   IsShapedKind (e.choice x y z) = IsShapedExpr x × IsShapedExpr y × IsShapedExpr z
   IsShapedKind (e.assign at o x y) = IsOneOf assignment_operators o × IsTarget x × IsShapedExpr x × IsShapedExpr y
 
+  -- what stands in front of the name of a method has the shape of the grammar
   pub IsShapedTarget : TargetTree → Type 0
   IsShapedTarget e.bare = Unit {0}
   IsShapedTarget (e.on x) = IsShapedExpr x
   IsShapedTarget e.super = Unit {0}
 
+  -- the initializer has the shape of the grammar
   pub IsShapedInit : InitTree → Type 0
   IsShapedInit (e.one x) = IsShapedExpr x
   IsShapedInit (e.list at xs) = AreShapedInits xs
 
+  -- each of the expressions has the shape of the grammar
   pub AreShapedExprs : ExprTrees → Type 0
   AreShapedExprs e.no_exprs = Unit {0}
   AreShapedExprs (e.exprs x xs) = IsShapedExpr x × AreShapedExprs xs
 
+  -- each of the initializers has the shape of the grammar
   pub AreShapedInits : InitTrees → Type 0
   AreShapedInits e.no_inits = Unit {0}
   AreShapedInits (e.inits x xs) = IsShapedInit x × AreShapedInits xs
@@ -138,6 +146,7 @@ IsShapedOption (Some x) = IsShapedInit x
 abbrev pub AreShapedVars : List VarTree → Type 0
 AreShapedVars vs = (0 < length vs) × All (λ v. IsShapedOption v.init) vs
 
+-- the expression, where there is one, has the shape of the grammar
 abbrev pub IsShapedCondition : Option ExprTree → Type 0
 IsShapedCondition None = Unit {0}
 IsShapedCondition (Some x) = IsShapedExpr x
@@ -169,9 +178,11 @@ HasBranches s.no_branches = ⊥
 HasBranches (s.branches x t xs) = Unit {0}
 
 abbrev mutual
+  -- the statement has the shape of the grammar
   pub IsShapedStmt : StmtTree → Type 0
   IsShapedStmt (s.stmt at k) = IsShapedStmtKind k
 
+  -- what a statement is has the shape of the grammar: its types, variables, expressions, branches and bodies
   pub IsShapedStmtKind : StmtKindTree → Type 0
   IsShapedStmtKind (s.block xs) = AreShapedStmts xs
   IsShapedStmtKind s.empty = Unit {0}
@@ -185,14 +196,17 @@ abbrev mutual
   IsShapedStmtKind s.break = Unit {0}
   IsShapedStmtKind s.continue = Unit {0}
 
+  -- each of the statements has the shape of the grammar
   pub AreShapedStmts : StmtTrees → Type 0
   AreShapedStmts s.no_stmts = Unit {0}
   AreShapedStmts (s.stmts x xs) = IsShapedStmt x × AreShapedStmts xs
 
+  -- each condition of an `if` has the shape of the grammar, and so has what it guards, which may be a branch
   pub AreShapedBranches : BranchTrees → Type 0
   AreShapedBranches s.no_branches = Unit {0}
   AreShapedBranches (s.branches x t xs) = IsShapedExpr x × IsBody t × IsShapedStmt t × AreShapedBranches xs
 
+  -- what stands behind the last `else`, where there is one, has the shape of the grammar and may be a branch
   pub IsShapedElse : ElseTree → Type 0
   IsShapedElse s.no_else = Unit {0}
   IsShapedElse (s.otherwise t) = IsBody t × IsShapedStmt t
@@ -201,20 +215,25 @@ abbrev mutual
 abbrev pub AreMods : List ℕ → Type 0
 AreMods ns = All (IsOneOf (34 ∷ 33 ∷ 32 ∷ 37 ∷ 0 ∷ 17 ∷ [])) ns
 
+-- the type of a parameter is a type of the grammar
 abbrev pub IsShapedParam : ParamTree → Type 0
 IsShapedParam p = IsType p.ty
 
+-- the statements of a body, where there is one, have the shape of the grammar
 abbrev pub IsShapedBlock : Option StmtTrees → Type 0
 IsShapedBlock None = Unit {0}
 IsShapedBlock (Some xs) = AreShapedStmts xs
 
+-- the arguments of a call of `super`, where there is one, have the shape of the grammar
 abbrev pub IsShapedCall : Option (ℕ × ExprTrees) → Type 0
 IsShapedCall None = Unit {0}
 IsShapedCall (Some x) = AreShapedExprs x.1
 
+-- the modifiers, the result, the parameters and the body of a method have the shape of the grammar
 abbrev pub IsShapedMethod : MethodTree → Type 0
 IsShapedMethod m = AreMods m.mods × IsResult m.result × All IsShapedParam m.params × IsShapedBlock m.body
 
+-- the modifiers, the parameters, the call of `super` and the body of a constructor have the shape of the grammar
 abbrev pub IsShapedCtor : CtorTree → Type 0
 IsShapedCtor c = AreMods c.mods × All IsShapedParam c.params × IsShapedCall c.call × AreShapedStmts c.body
 
@@ -228,6 +247,7 @@ abbrev pub AreInitialized : List VarTree → Type 0
 AreInitialized vs = All (λ v. v.init ≡ None → ⊥) vs
 
 abbrev mutual
+  -- the modifiers, the header and the members of a class or an interface have the shape of the grammar
   pub IsShapedDecl : TypeDeclTree → Type 0
   IsShapedDecl (d.type_decl n ms i es is xs) = AreMods ms × IsHeader i es is × AreShapedMembers i xs
 
@@ -239,6 +259,7 @@ abbrev mutual
   AreShapedMembers i (d.members (d.method m) xs) = IsShapedMethod m × (i ≡ true → m.body ≡ None) × AreShapedMembers i xs
   AreShapedMembers i (d.members (d.ctor c) xs) = IsShapedCtor c × (i ≡ false) × AreShapedMembers i xs
 
+-- the package of a file, where one is named, has at least one identifier
 abbrev pub IsPackage : Option (List Ident) → Type 0
 IsPackage None = Unit {0}
 IsPackage (Some ids) = IsName ids
@@ -256,6 +277,7 @@ TypesAreToldApart = (at : ℕ) → IsType (record { at = at; base = int; dims = 
 abbrev pub number_tree : ℕ → ExprTree
 number_tree at = e.expr at e.int
 
+-- a local variable of type `int` without an initializer, as a statement
 abbrev pub local_tree : ℕ → Ident → StmtTree
 local_tree at n = s.stmt at (s.local false (record { at = at; base = int; dims = 0 }) (record { name = n; init = None } ∷ []))
 

@@ -42,6 +42,7 @@ step_kind_tree (Field i) = field i
 step_kind_tree (Call i xs) = call i (expr_trees xs.now)
 step_kind_tree (Index x) = index (expr_tree x.now)
 
+-- the pure tree of a step, with the place where the whole starts
 abbrev pub step_tree : Step → StepTree
 step_tree s = record { at = s.at; kind = step_kind_tree s.kind }
 

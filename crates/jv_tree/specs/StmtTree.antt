@@ -19,6 +19,7 @@ mutual
   pub data StmtTree : Type 0 where
     stmt : ℕ → StmtKindTree → StmtTree
 
+  -- what a statement is; `local` begins with whether it is `final`, and `for_loop` is what comes first, condition, updates and body
   pub data StmtKindTree : Type 0 where
     block : StmtTrees → StmtKindTree
     empty : StmtKindTree
@@ -32,6 +33,7 @@ mutual
     break : StmtKindTree
     continue : StmtKindTree
 
+  -- statements one after another
   pub data StmtTrees : Type 0 where
     no_stmts : StmtTrees
     stmts : StmtTree → StmtTrees → StmtTrees
@@ -46,14 +48,17 @@ mutual
     no_else : ElseTree
     otherwise : StmtTree → ElseTree
 
+-- the pure tree of a variable
 abbrev pub var_tree : Var → VarTree
 var_tree v = record { name = v.name; init = option_map init_tree v.init }
 
+-- the pure trees of variables
 abbrev pub var_trees : List Var → List VarTree
 var_trees vs = map var_tree vs
 
 -- the pure tree of what a statement of the code is, and of its parts
 abbrev mutual
+  -- the pure tree of what a statement is
   pub stmt_kind_tree : StmtKind → StmtKindTree
   stmt_kind_tree (Block' shape xs) = block (stmt_row_trees xs)
   stmt_kind_tree Empty = empty
@@ -67,14 +72,17 @@ abbrev mutual
   stmt_kind_tree Break = break
   stmt_kind_tree Continue = continue
 
+  -- the pure trees of the statements of a block, or of what comes first in a `for`
   pub stmt_row_trees : {n : _} → Row_of-Stmt n → StmtTrees
   stmt_row_trees end_of-Stmt = no_stmts
   stmt_row_trees (more_of-Stmt at x xs) = stmts (stmt at (stmt_kind_tree x)) (stmt_row_trees xs)
 
+  -- the pure trees of the conditions of an `if`, with what they guard
   pub branch_row_trees : {n : _} → Row_of-StmtKind-If-0-2 n → BranchTrees
   branch_row_trees end_of-StmtKind-If-0-2 = no_branches
   branch_row_trees (more_of-StmtKind-If-0-2 x at s xs) = branches (expr_tree x) (stmt at (stmt_kind_tree s)) (branch_row_trees xs)
 
+  -- the pure tree of what stands behind the last `else`, where there is one
   pub else_tree : Held-StmtKind-If-1 → ElseTree
   else_tree None' = no_else
   else_tree (Some' p at s) = otherwise (stmt at (stmt_kind_tree s))
@@ -88,10 +96,12 @@ abbrev pub stmt_trees : List Stmt → StmtTrees
 stmt_trees [] = no_stmts
 stmt_trees (x ∷ xs) = stmts (stmt_tree x) (stmt_trees xs)
 
+-- the pure trees of conditions, with the statements that they guard
 abbrev pub branch_trees : List (Expr × Stmt) → BranchTrees
 branch_trees [] = no_branches
 branch_trees (x ∷ xs) = branches (expr_tree x.0) (stmt_tree x.1) (branch_trees xs)
 
+-- the pure tree of a statement behind the last `else`, where there is one
 abbrev pub optional_else : Option Stmt → ElseTree
 optional_else None = no_else
 optional_else (Some s) = otherwise (stmt_tree s)

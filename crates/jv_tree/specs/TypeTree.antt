@@ -21,9 +21,11 @@ pub record TypeTree : Type 0 where
   pub base : BaseTree
   pub dims : ℕ
 
+-- the identifiers of a name
 abbrev pub ids_of : Name → List Ident
 ids_of n = n.ids.items
 
+-- the pure tree of a type without its brackets
 abbrev pub base_tree : Base → BaseTree
 base_tree Boolean = boolean
 base_tree Char = char
@@ -32,5 +34,6 @@ base_tree Long = long
 base_tree Void = void
 base_tree (Named n) = named (ids_of n)
 
+-- the pure tree of a type
 abbrev pub type_tree : TypeRef → TypeTree
 type_tree t = record { at = t.at; base = base_tree t.base; dims = t.dims }

@@ -12,6 +12,7 @@ use Rattle.sc_io.specs.SourceTree.{FileOf}
 
 -- ---- the order of diagnostics: by file, place, code, and the bytes of the text
 
+-- how two diagnostics compare: by file, then by place, then by code, then by the bytes of the text
 abbrev pub diag_cmp : DiagOf → DiagOf → Ordering
 diag_cmp = then_cmp (on (λ d. d.file) nat_cmp) (then_cmp (on (λ d. d.at) nat_cmp) (then_cmp (on (λ d. d.code) nat_cmp) (on (λ d. d.text) (slice_cmp nat_cmp))))
 
@@ -39,6 +40,7 @@ file_of fs file = slice_index_or fs (file - 2) no_file
 abbrev pub line_in : FileOf → DiagOf → List ℕ
 line_in f d = place_text f.path (line_of f.bytes (min d.at (length f.bytes))) (column_of f.bytes (min d.at (length f.bytes))) ++ code_text d.code ++ codes " " ++ d.text ++ codes "\n"
 
+-- the line of a diagnostic, in the file that its number names
 abbrev pub line_of_diag : List FileOf → DiagOf → List ℕ
 line_of_diag fs d = line_in (file_of fs d.file) d
 

@@ -14,9 +14,11 @@ use Rattle.sc_sources.specs.Sources.{Outcome, ReadsFolder, AreTrees, faults_from
 abbrev pub most_files : ℕ
 most_files = 4096
 
+-- the most bytes of a file: 1 MiB
 abbrev pub most_bytes : ℕ
 most_bytes = 1048576
 
+-- the most bytes of all files together: 4 MiB
 abbrev pub most_total : ℕ
 most_total = 4194304
 

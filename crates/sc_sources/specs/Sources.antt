@@ -45,6 +45,7 @@ abbrev pub object_source : List ℕ
 object_source =
     codes "package java.lang; public class Object { public boolean equals(Object o) { return true; } public int hashCode() { return 0; } public String toString() { return \"\"; } }\n"
 
+-- the second source of the prelude, that of `java.lang.String` (JLS 4.3.3)
 abbrev pub string_source : List ℕ
 string_source =
     codes "package java.lang; public final class String { public int length() { return 0; } public char charAt(int i) { return ' '; } public boolean isEmpty() { return true; } public String concat(String s) { return s; } }\n"
