@@ -51,10 +51,16 @@ fn agree_along(alloc: Global, expr: &Expr, word: &[u8]) -> Result<bool, AllocErr
     Ok(say_the_same(&positions, set, &rest))
 }
 
-/// Whether positions and derivatives agree along all words of four labels below 3.
+/// Whether positions and derivatives agree along all words of at most five labels below 3.
 fn agree(alloc: Global, expr: &Expr) -> Result<bool, AllocError> {
-    for code in 0..81u8 {
-        let word = [code % 3, code / 3 % 3, code / 9 % 3, code / 27];
+    for code in 0..243u8 {
+        let word = [
+            code % 3,
+            code / 3 % 3,
+            code / 9 % 3,
+            code / 27 % 3,
+            code / 81,
+        ];
         if !agree_along(alloc, expr, &word)? {
             return Ok(false);
         }
@@ -101,6 +107,55 @@ fn positions_and_derivatives_agree(rt: HostRuntime) -> Result<(), Fail> {
         )?
     );
     assert!(rt; agree(alloc, &Expr::Nothing)? && agree(alloc, &Expr::Empty)?);
+    Ok(())
+}
+
+/// The last of these expressions, which is taken from them, or the empty word.
+fn last(parts: &mut Vec<Expr>) -> Expr {
+    match parts.pop() {
+        Some(part) => part,
+        None => Expr::Empty,
+    }
+}
+
+/// An expression by the digits of a number: each adds a part, joins the last two or repeats the last.
+fn by_digits(alloc: Global, digits: u64) -> Result<Expr, AllocError> {
+    let mut parts = Vec::new(alloc);
+    let mut left = digits;
+    for _ in 0..12 {
+        let part = match left % 8 {
+            0 | 1 | 2 => one((left % 8) as u8),
+            3 => any(alloc, last(&mut parts))?,
+            4 | 5 => {
+                let second = last(&mut parts);
+                then(alloc, last(&mut parts), second)?
+            }
+            6 => {
+                let right = last(&mut parts);
+                either(alloc, last(&mut parts), right)?
+            }
+            _ => Expr::Nothing,
+        };
+        parts.push(part)?;
+        left /= 8;
+    }
+    let mut all = last(&mut parts);
+    for part in parts {
+        all = either(alloc, part, then(alloc, all, one(1))?)?;
+    }
+    Ok(all)
+}
+
+#[test]
+fn positions_and_derivatives_agree_on_random_expressions(rt: HostRuntime) -> Result<(), Fail> {
+    let mut seed: u64 = 20;
+    for round in 0..60 {
+        seed = seed
+            .wrapping_mul(6_364_136_223_846_793_005)
+            .wrapping_add(1_442_695_040_888_963_407);
+        let expr = by_digits(rt.alloc(), seed >> 20)?;
+        assert!(rt; agree(rt.alloc(), &expr)?, "in round {round}");
+    }
     Ok(())
 }
 

@@ -7,6 +7,7 @@ pub mod Keyed
 pub mod InOrder
 pub mod EachOnce
 pub mod PlaceRows
+pub mod ShortRows
 pub mod RisingLists
 pub mod Views
 pub mod Changing

@@ -15,6 +15,8 @@ use Rattle.sg_base.proofs.Scopes.{equal_nat}
 use Rattle.sg_state.specs.declared.row.Row.{Row}
 use Rattle.sg_state.specs.declared.slot.Slot.{Slot}
 use Rattle.sg_state.specs.Place.{PlaceOf, HasTarget, HasHolder, HasRow, IsPlace, KeepsPlace, AddsTarget, AddsHolder, LosesHolder}
+use Rattle.sg_state.proofs.RisingLists.{Rising-put}
+use Rattle.sg_state.proofs.ShortRows.{keys_put}
 use Rattle.sg_state.proofs.Keyed.{found-Contains, none_there, insert_adds, at_changes, at_adds, at_keeps, at_inserts, each_set}
 
 module _ {D : Type 0} (rows : List (ℕ × Row)) (slot : Slot D) where
@@ -54,9 +56,9 @@ module _ {D : Type 0} (rows : List (ℕ × Row)) (slot : Slot D) where
             | inr e ↦ subst P (sym e) p
           ])
 
-      pub made_place : l < 16 → IsRising nat_cmp (map (λ r. r.0) (insert_entry nat_cmp rows l empty)) → IsPlace (with_rows (insert_entry nat_cmp rows l empty))
-      made_place below up = record {
-        labels_rise = up;
+      pub made_place : l < 16 → IsPlace (with_rows (insert_entry nat_cmp rows l empty))
+      made_place below = record {
+        labels_rise = subst (IsRising nat_cmp) (sym (keys_put rows l empty)) (Rising-put nat_cmp nat_cmp_total (map (λ r. r.0) rows) l (λ m c e. equal_nat l m e) ok.labels_rise);
         labelled = each_insert (λ r. r.0 < 16) below ok.labelled;
         targets_rise = each_insert (λ r. IsRising scope_cmp (r.1).targets) tt ok.targets_rise;
         holders_rise = each_insert (λ r. IsRising nat_cmp (r.1).holders) tt ok.holders_rise;
@@ -132,6 +134,10 @@ module _ {D : Type 0} (rows : List (ℕ × Row)) (slot : Slot D) where
     -- a row that is there is found
     pub row_found : (l : ℕ) → HasRow place l → lookup (is_at (nat_cmp l)) rows ≡ None → ⊥
     row_found l r none = none_there nat_cmp nat_cmp_total equal_nat rows l r.0 none r.1
+
+-- a place that stays has what it has
+pub kept_same : {D : Type 0} (p : PlaceOf D) → KeepsPlace p p
+kept_same p = record { targets = λ l t. ((λ h. h), (λ h. h)); holders = λ l u. ((λ h. h), (λ h. h)); slot = refl }
 
 -- a row that gets what it has stays as it was
 pub set_same : {K V : Type 0} (test : K → Bool) (es : List (K × V)) (v w : V) → lookup test es ≡ Some v → w ≡ v → set_value test es w ≡ es

@@ -121,9 +121,11 @@ with_edge h e = record {
   rest = cond (is_given h.graph e.to) h.rest (put edge_cmp h.rest e);
 }
 
+-- whether the hold is that of this unit on this row
 abbrev pub is_row_hold : ℕ → Scope → ℕ → RowHold → Bool
 is_row_hold u s l k = (k.unit == u) && (is_scope k.scope s && (k.label == l))
 
+-- whether the hold is that of this unit on this scope's datum
 abbrev pub is_datum_hold : ℕ → Scope → DatumHold → Bool
 is_datum_hold u s k = (k.unit == u) && is_scope k.scope s
 
@@ -157,8 +159,10 @@ without_unit h u = record {
   rest = h.rest;
 }
 
+-- the order of row holds is total
 pub row_hold_total : IsTotalOrder row_hold_cmp
 row_hold_total = then_total (on_total (λ k. k.scope) scope_total) (then_total (on_total (λ k. k.label) nat_cmp_total) (on_total (λ k. k.unit) nat_cmp_total))
 
+-- the order of datum holds is total
 pub datum_hold_total : IsTotalOrder datum_hold_cmp
 datum_hold_total = then_total (on_total (λ k. k.scope) scope_total) (on_total (λ k. k.unit) nat_cmp_total)

@@ -5,7 +5,9 @@ pub mod Opening
 pub mod Part
 pub mod Place
 pub mod Rest
+pub mod Rows
 pub mod Slot
+pub mod UnitSet
 pub mod View
 pub mod Write
 pub mod Freed

@@ -32,17 +32,21 @@ HoldsAlone h u n = Holds h u n × ((v : ℕ) → Holds h v n → v ≡ u)
 abbrev pub need_order : Need → Need → Ordering
 need_order = (derived.ghosts).cmp
 
+-- on each two needs the order of the code is the order of needs
 pub need_order_is : (a b : Need) → need_order a b ≡ need_cmp a b
 need_order_is (Row s l) (Row t m) = refl
 need_order_is (Row s l) (Datum t) = refl
 need_order_is (Datum s) (Row t m) = refl
 need_order_is (Datum s) (Datum t) = refl
 
+-- the order of the code and the order of needs are one
 pub need_orders : need_order ≡ need_cmp
 need_orders = λ i a b. need_order_is a b i
 
+-- the order that the code compares needs by is total
 pub need_order_total : IsTotalOrder need_order
 need_order_total = laws.total-law
 
+-- the order of needs is total
 pub need_total : IsTotalOrder need_cmp
 need_total = subst IsTotalOrder need_orders need_order_total

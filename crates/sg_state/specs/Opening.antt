@@ -26,9 +26,11 @@ pub record OpeningOf (D : Type 0) : Type 0 where
 abbrev pub edge_of : Scope × ℕ × Scope → Edge
 edge_of e = record { from = e.0; label = e.1; to = e.2 }
 
+-- the row hold that a tuple of a unit, a scope and a label lists
 abbrev pub row_hold_of : ℕ × Scope × ℕ → RowHold
 row_hold_of k = record { scope = k.1; label = k.2; unit = k.0 }
 
+-- the datum hold that a tuple of a unit and a scope lists
 abbrev pub held_datum_of : ℕ × Scope → DatumHold
 held_datum_of k = record { scope = k.1; unit = k.0 }
 

@@ -304,15 +304,15 @@ impl<I: Instance> Held<I> {
     }
 
     /// The rising list of the rows and unset data that the unit alone holds: rows by scope and label, then data by
-    /// scope. Costs sorting the scopes at which the unit was ever given a hold, though it may have given that up, and sixteen
-    /// look-ups for each: where it is asked once, as the unit ends, each hold that was given is looked at once.
+    /// scope. Costs sorting the scopes at which the unit was ever given a hold, though it may have given that up, and one
+    /// look-up for each: where it is asked once, as the unit ends, each hold that was given is looked at once.
     pub fn frees(&self, unit: u32) -> Result<Vec<Need>, AllocError>
         ensures rising { IfOk result (λ ns. IsRising need_cmp ns.items) }
         ensures exact { IfOk result (λ ns. (n : NeedOf) → (Contains ns.items n) ↔ (HoldsAlone self.now unit n)) }
+        ensures sound { IsHeld self.now }
     {
         let list = lists::rising(self.alloc, &self.lists, unit)?;
-        let mut needs = freed::rows(self.alloc, self, &list, unit)?;
-        freed::add_data(self, &list, unit, &mut needs)?;
+        let needs = freed::needs(self.alloc, &self.places, &list, unit)?;
         Ok(needs)
     }
 }

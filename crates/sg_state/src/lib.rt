@@ -19,6 +19,7 @@ mod parts;
 mod place;
 mod places;
 mod row;
+mod rows;
 mod scope_list;
 mod slot;
 mod sound;

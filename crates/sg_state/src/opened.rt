@@ -20,14 +20,14 @@ use sg_base::{Label, Scope};
 use std::alloc::{AllocError, Global};
 use std::collections::BTreeMap;
 
-/// The scopes of a list without repetition, with nothing yet.
+/// The scopes of a list without repetition, with nothing yet. Room for them is reserved once.
 pub fn bare<D: Drop>(alloc: Global, list: &[Scope]) -> Result<Places<D>, AllocError>
     requires distinct { IsDistinct list.now }
     ensures { IfOk result (λ m. AreBare m.entries list.now) }
 {
-    let mut places = Places::new(alloc);
+    let mut places = Places::with_room(alloc, list.len())?;
     for s in list {
-        places.insert(*s, Place::new(alloc))?;
+        places.insert(*s, Place::new())?;
     }
     Ok(places)
 }

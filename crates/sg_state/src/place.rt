@@ -1,23 +1,25 @@
-ghost use Rattle.std.specs.Prelude.{◌≡◌, ◌<◌, [], IfOk, OnOk, OnErr};
+ghost use Rattle.std.specs.Prelude.{◌≡◌, ◌<◌, ℕ, [], ◌↔◌, IfOk, OnOk, OnErr};
 ghost use Rattle.std.specs.BTreeMap.{is_at};
+ghost use Rattle.std.specs.List.{Contains};
 ghost use Rattle.std.specs.Map.{lookup};
 ghost use Rattle.std.specs.Option.{option_copied};
 ghost use Rattle.std.specs.Ordering.{nat_cmp};
+ghost use Rattle.sg_base.specs.List.{IsRising};
 ghost use Rattle.sg_state.specs.declared.slot.Slot.TheVariants.{Empty};
-ghost use Rattle.sg_state.specs.Place.{IsPlace, HasRow, KeepsPlace, AddsTarget, AddsHolder, LosesHolder, LosesUnit, IsFresh};
+ghost use Rattle.sg_state.specs.Place.{IsPlace, HasRow, HasHolder, KeepsPlace, AddsTarget, AddsHolder, LosesHolder, LosesUnit, IsFresh};
 
 use crate::row::Row;
+use crate::rows::Rows;
 use crate::slot::Slot;
 use crate::unit_set::UnitSet;
 use sg_base::{Label, LabelSet, Scope, ScopeSet};
 use std::alloc::{AllocError, Global};
-use std::collections::BTreeMap;
 use std::marker::Model;
 
 /// What a scope has: its rows by the numbers of their labels, and its datum.
 #[derive(Drop)]
 pub struct Place<D> {
-    rows: BTreeMap<u8, Row>,
+    rows: Rows,
     slot: Slot<D>,
 }
 
@@ -26,16 +28,18 @@ impl<D> Model for Place<D> {
 
     ghost Value = { PlaceOf D };
 
-    ghost view = { λ p. record { rows = p.rows.entries; slot = p.slot } };
+    ghost use Rattle.sg_state.specs.Rows.{rows_of};
+
+    ghost view = { λ p. record { rows = rows_of p.rows; slot = p.slot } };
 }
 
 impl<D> Place<D> {
     /// The place with no row and no datum.
-    pub fn new(alloc: Global) -> Place<D>
+    pub fn new() -> Place<D>
         ensures { result ≡ record { rows = []; slot = Empty } }
     {
         Place {
-            rows: BTreeMap::new(alloc),
+            rows: Rows::None,
             slot: Slot::Empty,
         }
     }
@@ -44,14 +48,26 @@ impl<D> Place<D> {
     pub fn row(&self, label: u8) -> Option<&Row>
         ensures { option_copied result ≡ lookup (is_at (nat_cmp label)) self.now.rows }
     {
-        self.rows.get(&label)
+        self.rows.row(label)
+    }
+
+    /// The units that hold the row of a label in rising order, by a look-up among at most sixteen rows.
+    pub fn holders(&self, label: u8) -> &[u32]
+        requires place { IsPlace self.now }
+        ensures exact { (u : ℕ) → (Contains result.now u) ↔ (HasHolder self.now label u) }
+        ensures rising { IsRising nat_cmp result.now }
+    {
+        match self.row(label) {
+            Some(row) => row.holders.as_slice(),
+            None => &[],
+        }
     }
 
     /// The rows of the scope by the numbers of their labels.
-    pub fn rows(&self) -> &BTreeMap<u8, Row>
-        ensures { result.now.entries ≡ self.now.rows }
+    pub fn rows(&self) -> &[(u8, Row)]
+        ensures { result.now ≡ self.now.rows }
     {
-        &self.rows
+        self.rows.as_slice()
     }
 
     /// The datum of the scope.
@@ -78,14 +94,14 @@ impl<D> Place<D> {
         ensures same { KeepsPlace self.old self.new }
         ensures place { IsPlace self.new }
     {
-        match self.rows.get(&label) {
-            Some(_row) => Ok(()),
+        match self.rows.find(label) {
+            Some(_at) => Ok(()),
             None => {
                 let row = Row {
                     targets: ScopeSet::new(alloc),
-                    holders: UnitSet::new(alloc),
+                    holders: UnitSet::new(),
                 };
-                self.rows.insert(label, row)?;
+                self.rows.insert(alloc, label, row)?;
                 Ok(())
             }
         }
@@ -99,22 +115,22 @@ impl<D> Place<D> {
         ensures place { IsPlace self.new }
         ensures err { OnErr result (self.new ≡ self.old) }
     {
-        match self.rows.get_mut(&label) {
-            Some(row) => row.targets.insert(to)?,
+        match self.rows.find(label) {
+            Some(at) => self.rows.row_mut(at).targets.insert(to)?,
             None => {}
         }
         Ok(())
     }
 
     /// Adds a holder to the row of a label.
-    pub fn add_holder(&mut self, label: u8, unit: u32) -> Result<(), AllocError>
+    pub fn add_holder(&mut self, alloc: Global, label: u8, unit: u32) -> Result<(), AllocError>
         requires there { HasRow self.old label }
         requires place { IsPlace self.old }
         ensures ok { OnOk result (AddsHolder self.old self.new label unit) }
         ensures place { IsPlace self.new }
     {
-        match self.rows.get_mut(&label) {
-            Some(row) => row.holders.insert(unit)?,
+        match self.rows.find(label) {
+            Some(at) => self.rows.row_mut(at).holders.insert(alloc, unit)?,
             None => {}
         }
         Ok(())
@@ -126,8 +142,8 @@ impl<D> Place<D> {
         ensures gone { LosesHolder self.old self.new label unit }
         ensures place { IsPlace self.new }
     {
-        match self.rows.get_mut(&label) {
-            Some(row) => row.holders.remove(unit),
+        match self.rows.find(label) {
+            Some(at) => self.rows.row_mut(at).holders.remove(unit),
             None => {}
         }
     }
@@ -154,7 +170,7 @@ impl<D> Place<D> {
         ensures place { IsPlace self.new }
     {
         self.make_row(alloc, label)?;
-        self.add_holder(label, unit)?;
+        self.add_holder(alloc, label, unit)?;
         Ok(())
     }
 
@@ -182,7 +198,7 @@ impl<D> Place<D> {
         D: Drop,
         ensures { IfOk result (λ p. IsFresh p unit labels datum) }
     {
-        let mut place = Place::new(alloc);
+        let mut place = Place::new();
         place.set_slot(Slot::fresh(unit, datum));
         for label in 0..16u8 {
             if labels.has(Label::new(label)) {

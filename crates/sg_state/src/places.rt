@@ -1,9 +1,10 @@
 //! The scopes of a held graph with what they have, and what changes at one of them.
 
-ghost use Rattle.std.specs.Prelude.{◌≡◌, ◌<◌, ◌⊎◌, ◌↔◌, [], map, None, IsTrue, IfSome, IfNone, OnOk, OnErr};
+ghost use Rattle.std.specs.Prelude.{◌≡◌, ◌<◌, ◌⊎◌, ◌↔◌, [], map, None, IsTrue, IfSome, IfNone, IfOk, OnOk, OnErr};
 ghost use Rattle.std.specs.BTreeMap.{is_at, insert_entry};
 ghost use Rattle.std.specs.List.{Contains};
 ghost use Rattle.std.specs.Map.{lookup};
+ghost use Rattle.std.specs.Option.{option_copied};
 ghost use Rattle.sg_base.specs.declared.scope.Scope.{Scope as ScopeOf};
 ghost use Rattle.sg_base.specs.List.{IsDistinct, IsRising};
 ghost use Rattle.sg_base.specs.Scope.{scope_cmp};
@@ -44,6 +45,14 @@ impl<D> Places<D> {
         Places {
             found: HashMap::new(alloc),
         }
+    }
+
+    /// No scope, with room for as many as this.
+    pub fn with_room(alloc: Global, scopes: usize) -> Result<Places<D>, AllocError>
+        ensures { IfOk result (λ m. m.entries ≡ []) }
+    {
+        let found = HashMap::with_capacity(alloc, scopes)?;
+        Ok(Places { found })
     }
 
     /// Adds a scope that is not there, with what it has, in constant time on average.
@@ -165,6 +174,13 @@ impl<D> Places<D> {
             Some(place) => place.leave(unit),
             None => {}
         }
+    }
+
+    /// What a scope has, if the scope is there, by a look-up.
+    pub fn place(&self, s: Scope) -> Option<&Place<D>>
+        ensures { lookup (is_at (scope_cmp s)) self.now.entries ≡ option_copied result }
+    {
+        self.found.get(&s)
     }
 
     /// The row of a scope and a label, if it was made, by look-ups.

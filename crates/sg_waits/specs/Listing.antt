@@ -12,6 +12,7 @@ use Rattle.sg_waits.specs.declared.listing.Listing.{Listing}
 abbrev pub listing_cmp : Listing → Listing → Ordering
 listing_cmp = then_cmp (on (λ k. k.need) need_order) (on (λ k. k.unit) nat_cmp)
 
+-- the order of listings is total
 pub listing_total : IsTotalOrder listing_cmp
 listing_total = then_total (on_total (λ k. k.need) need_order_total) (on_total (λ k. k.unit) nat_cmp_total)
 

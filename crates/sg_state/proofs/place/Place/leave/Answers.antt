@@ -1,4 +1,5 @@
 use Rattle.std.proofs.Common.{arith}
+use Rattle.sg_state.specs.Rows.{rows_of}
 use Rattle.sg_state.proofs.Leaving.{left_none, left_more, left_all}
 use Rattle.sg_state.proofs.place.Place.leave.Goals as goal
 
@@ -10,4 +11,4 @@ loop-label-preserved g c = left_more _ _ _ c.loop-label.label c.args.unit c.loop
 
 pub returns-clause-gone : goal.returns-clause-gone
 returns-clause-gone g c =
-    left_all c.args.self.now c.loop-label.self c.self.inside.rows.entries c.self.inside.slot c.give_up.new.self c.loop-label.label c.args.unit c.requires.place (omega (arith, c.loop-label-test.false, c.loop-label.auto.label-end)) c.loop-label.invariant c.self.view_is c.give_up.ensures
+    left_all c.args.self.now c.loop-label.self (rows_of c.self.inside.rows) c.self.inside.slot c.give_up.new.self c.loop-label.label c.args.unit c.requires.place (omega (arith, c.loop-label-test.false, c.loop-label.auto.label-end)) c.loop-label.invariant c.self.view_is c.give_up.ensures

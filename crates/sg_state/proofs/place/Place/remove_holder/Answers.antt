@@ -1,27 +1,28 @@
-use Rattle.std.proofs.Common.{refl, sym}
+use Rattle.std.proofs.Common.{refl, ◌∙◌}
+use Rattle.sg_state.specs.Rows.{rows_of}
 use Rattle.sg_state.specs.declared.row.Row.{Row}
 use Rattle.sg_state.proofs.PlaceRows.{holder_lost, holder_absent, changed_place, targets_at}
 use Rattle.sg_state.proofs.place.Place.remove_holder.Goals as goal
-use Rattle.sg_state.proofs.place.Place.remove_holder.Goals.{in-Some, in-None}
 
-pub returns-clause-gone : goal.returns-clause-gone
-returns-clause-gone g c =
+pub returns-in-Some-clause-gone : goal.returns-in-Some-clause-gone
+returns-in-Some-clause-gone g c =
     let ok = rw (← c.self.view_is) at c.requires.place in
-    elim c.match-get_mut.branch [
-      | in-Some w ↦
-          let new : Row = record { targets = w.in-Some.row.now.targets; holders = w.remove.new.self } in
-          rw (w.self-inside-is, (c.get_mut.follows.holds new).0, ← c.self.view_is)
-          (holder_lost c.self.inside.rows.entries c.self.inside.slot ok c.args.label w.in-Some.row.now new (sym w.in-Some.ensures.value) c.args.unit w.remove.ensures.left refl)
-      | in-None w ↦ rw (w.self-inside-is, c.get_mut.follows.holds-at-none, ← c.self.view_is) (holder_absent c.self.inside.rows.entries c.self.inside.slot ok c.args.label c.args.unit (sym w.in-None.ensures.value))
-    ]
+    let old = c.row_mut.result.now in
+    let new : Row = record { targets = old.targets; holders = c.remove.new.self } in
+    let here = c.in-Some.ensures.found.found ∙ c.row_mut.ensures.value in
+    rw (c.in-Some.ensures.found.written new, ← c.self.view_is)
+    (holder_lost (rows_of c.self.inside.rows) c.self.inside.slot ok c.args.label old new here c.args.unit c.remove.ensures.left refl)
 
-pub returns-clause-place : goal.returns-clause-place
-returns-clause-place g c =
+pub returns-in-Some-clause-place : goal.returns-in-Some-clause-place
+returns-in-Some-clause-place g c =
     let ok = rw (← c.self.view_is) at c.requires.place in
-    elim c.match-get_mut.branch [
-      | in-Some w ↦
-          let new : Row = record { targets = w.in-Some.row.now.targets; holders = w.remove.new.self } in
-          rw (w.self-inside-is, (c.get_mut.follows.holds new).0)
-          (changed_place c.self.inside.rows.entries c.self.inside.slot ok c.args.label w.in-Some.row.now new (sym w.in-Some.ensures.value) (targets_at c.self.inside.rows.entries c.self.inside.slot ok c.args.label w.in-Some.row.now (sym w.in-Some.ensures.value)) w.remove.ensures.rising)
-      | in-None w ↦ rw (w.self-inside-is, c.get_mut.follows.holds-at-none) ok
-    ]
+    let old = c.row_mut.result.now in
+    let new : Row = record { targets = old.targets; holders = c.remove.new.self } in
+    let here = c.in-Some.ensures.found.found ∙ c.row_mut.ensures.value in
+    rw (c.in-Some.ensures.found.written new)
+    (changed_place (rows_of c.self.inside.rows) c.self.inside.slot ok c.args.label old new here (targets_at (rows_of c.self.inside.rows) c.self.inside.slot ok c.args.label old here) c.remove.ensures.rising)
+
+pub returns-in-None-clause-gone : goal.returns-in-None-clause-gone
+returns-in-None-clause-gone g c =
+    let ok = rw (← c.self.view_is) at c.requires.place in
+    rw (← c.self.view_is) (holder_absent (rows_of c.self.inside.rows) c.self.inside.slot ok c.args.label c.args.unit c.in-None.ensures.none)

@@ -1,5 +1,0 @@
-use Rattle.sg_state.specs.Freed.{Adds, IsFreeBelow}
-use Rattle.sg_state.proofs.freed.add_rows_at.Given as goal
-
-abbrev pub invariant-loop-label : goal.invariant-loop-label
-invariant-loop-label g l = Adds l.initial.needs.items l.needs.items (IsFreeBelow l.held l.unit l.s l.label)
