@@ -6,9 +6,9 @@ use Rattle.std.proofs.lemmas.Bool.{cases_Bool}
 use Rattle.std.proofs.lemmas.Bool.Decides.{nat_tests}
 use Rattle.std.proofs.lemmas.List.Elements.{All-nil, All-cons}
 use Rattle.sg_board.specs.declared.place.Place.{Place}
-use Rattle.sg_board.specs.declared.place.Place.TheVariants.{Away, Ready, Waiting, Ended}
+use Rattle.sg_board.specs.declared.place.Place.TheVariants.{Away, Waiting, Ended}
 use Rattle.sg_board.specs.Places.{task_at, HasTask, number_at, numbers_at, ArePlaced, counting}
-use Rattle.sg_board.specs.Weighing.{weigh, times}
+use Rattle.sg_board.specs.Weighing.{weigh, times, weigh_option}
 use Rattle.sg_board.proofs.Weights.{weigh-append}
 
 pub itself_once : (n : ℕ) → ◌≡◌ {A = ℕ} (cond (n == n) 1 0) 1
@@ -42,34 +42,25 @@ module _ {T : Type 0} (number : T → ℕ) where
 
   at_of : (h : ℕ → ℕ) (p : Place T) (t : T) → task_at p ≡ Some t → weigh h (number_at number p) ≡ h (number t)
   at_of h (Away woken) t e = absurd (cc)
-  at_of h (Ready s) t e = let same : s ≡ t = cc in let k : h (number s) ≡ h (number t) = ap (λ x. h (number x)) same in omega (arith, k)
   at_of h (Waiting s) t e = let same : s ≡ t = cc in let k : h (number s) ≡ h (number t) = ap (λ x. h (number x)) same in omega (arith, k)
   at_of h (Ended s) t e = let same : s ≡ t = cc in let k : h (number s) ≡ h (number t) = ap (λ x. h (number x)) same in omega (arith, k)
 
   at_none : (p : Place T) → task_at p ≡ None → number_at number p ≡ []
   at_none (Away woken) e = refl
-  at_none (Ready s) e = absurd (cc)
   at_none (Waiting s) e = absurd (cc)
   at_none (Ended s) e = absurd (cc)
 
   same_at : (p q : Place T) → task_at p ≡ task_at q → number_at number p ≡ number_at number q
   same_at p (Away woken) e = at_none p e
-  same_at (Away woken) (Ready t) e = absurd (cc)
-  same_at (Ready s) (Ready t) e = let same : s ≡ t = cc in ap (λ x. number x ∷ []) same
-  same_at (Waiting s) (Ready t) e = let same : s ≡ t = cc in ap (λ x. number x ∷ []) same
-  same_at (Ended s) (Ready t) e = let same : s ≡ t = cc in ap (λ x. number x ∷ []) same
   same_at (Away woken) (Waiting t) e = absurd (cc)
-  same_at (Ready s) (Waiting t) e = let same : s ≡ t = cc in ap (λ x. number x ∷ []) same
   same_at (Waiting s) (Waiting t) e = let same : s ≡ t = cc in ap (λ x. number x ∷ []) same
   same_at (Ended s) (Waiting t) e = let same : s ≡ t = cc in ap (λ x. number x ∷ []) same
   same_at (Away woken) (Ended t) e = absurd (cc)
-  same_at (Ready s) (Ended t) e = let same : s ≡ t = cc in ap (λ x. number x ∷ []) same
   same_at (Waiting s) (Ended t) e = let same : s ≡ t = cc in ap (λ x. number x ∷ []) same
   same_at (Ended s) (Ended t) e = let same : s ≡ t = cc in ap (λ x. number x ∷ []) same
 
   task_or_none : (p : Place T) → ((t : T) × (task_at p ≡ Some t)) ⊎ (task_at p ≡ None)
   task_or_none (Away woken) = inr refl
-  task_or_none (Ready t) = inl (t, refl)
   task_or_none (Waiting t) = inl (t, refl)
   task_or_none (Ended t) = inl (t, refl)
 
@@ -89,15 +80,17 @@ module _ {T : Type 0} (number : T → ℕ) where
   set_same (x ∷ ps) zero p q e s = ap (λ l. l ++ numbers_at number ps) (same_at q x (s ∙ ap task_at e))
   set_same (x ∷ ps) (suc i) p q e s = ap (λ l. number_at number x ++ l) (set_same ps i p q e s)
 
-  -- a task leaves its place, if it is ready
-  pub set_taken : (o : Option T) (ps : List (Place T)) (i : ℕ) (p q : Place T) → i < length ps → p ≡ slice_index_or ps i p → MatchOption o (q ≡ p) (λ t. (p ≡ Ready t) × (q ≡ Away false))
-      → (h : ℕ → ℕ) → MatchOption o (weigh h (numbers_at number (slice_set ps i q)) ≡ weigh h (numbers_at number ps)) (λ t. h (number t) + weigh h (numbers_at number (slice_set ps i q)) ≡ weigh h (numbers_at number ps))
-  set_taken None ps i p q l e m h = ap (weigh h) (set_same ps i p q e (ap task_at m))
-  set_taken (Some t) ps i p q l e m h = omega (arith, weigh_set h ps i p q l e, ap (λ y. weigh h (number_at number y)) m.0, ap (λ y. weigh h (number_at number y)) m.1)
+  -- a task leaves its place, if there is one to leave
+  pub set_taken : (o : Option T) (ps : List (Place T)) (i : ℕ) (p q : Place T) → i < length ps → p ≡ slice_index_or ps i p → MatchOption o (task_at q ≡ task_at p) (λ t. (task_at p ≡ Some t) × (task_at q ≡ None))
+      → (h : ℕ → ℕ) → weigh_option number h o + weigh h (numbers_at number (slice_set ps i q)) ≡ weigh h (numbers_at number ps)
+  set_taken None ps i p q l e m h = omega (arith, ap (weigh h) (set_same ps i p q e m))
+  set_taken (Some t) ps i p q l e m h = omega (arith, weigh_set h ps i p q l e, at_of h p t m.0, ap (weigh h) (at_none q m.1))
 
-  -- a task comes to its place
-  pub set_put : (t : T) (ps : List (Place T)) (i : ℕ) (p q : Place T) → i < length ps → p ≡ slice_index_or ps i p → task_at p ≡ None → task_at q ≡ Some t → (h : ℕ → ℕ) → weigh h (numbers_at number (slice_set ps i q)) ≡ h (number t) + weigh h (numbers_at number ps)
-  set_put t ps i p q l e none some h = omega (arith, weigh_set h ps i p q l e, ap (weigh h) (at_none p none), at_of h q t some)
+  -- a task comes to its place, or comes back
+  pub set_put : (o : Option T) (t : T) (ps : List (Place T)) (i : ℕ) (p q : Place T) → i < length ps → p ≡ slice_index_or ps i p → MatchOption o ((task_at p ≡ None) × (task_at q ≡ Some t)) (λ s. (s ≡ t) × (task_at q ≡ task_at p))
+      → (h : ℕ → ℕ) → weigh_option number h o + weigh h (numbers_at number (slice_set ps i q)) ≡ h (number t) + weigh h (numbers_at number ps)
+  set_put None t ps i p q l e m h = omega (arith, weigh_set h ps i p q l e, ap (weigh h) (at_none p m.0), at_of h q t m.1)
+  set_put (Some s) t ps i p q l e m h = let k : h (number s) ≡ h (number t) = ap (λ x. h (number x)) m.0 in omega (arith, k, ap (weigh h) (set_same ps i p q e m.1))
 
   -- ---- where a task is
 
@@ -113,13 +106,6 @@ module _ {T : Type 0} (number : T → ℕ) where
   get_at [] i p l e = absurd (omega arith)
   get_at (x ∷ ps) zero p l e = ap Some (sym e)
   get_at (x ∷ ps) (suc i) p l e = get_at ps i p (omega (arith, l)) e
-
-  -- the place of a task that is not on the board
-  pub no_task : (ps : List (Place T)) (i : ℕ) (p : Place T) → ArePlaced number ps → i < length ps → p ≡ slice_index_or ps i p → times i (numbers_at number ps) ≡ 0 → task_at p ≡ None
-  no_task ps i p placed l e none = elim (task_or_none p) [
-    | inl s ↦ let g = get_at ps i p l e in let n = placed i p s.0 g s.1 in absurd (omega (arith, stands_at ps i p s.0 g s.1, ap (λ k. times k (numbers_at number ps)) n, none))
-    | inr s ↦ s
-  ]
 
   -- ---- the end
 
@@ -167,34 +153,23 @@ module _ {T : Type 0} (number : T → ℕ) where
 
   -- ---- the beginning
 
-  pub laid_numbers : (ts : List T) → numbers_at number (map (λ t. Ready t) ts) ≡ map number ts
-  laid_numbers [] = refl
-  laid_numbers (t ∷ ts) = ap (λ l. number t ∷ l) (laid_numbers ts)
+  pub none_there : (ps : List (Place T)) → All (λ p. task_at p ≡ None) ps → numbers_at number ps ≡ []
+  none_there [] a = refl
+  none_there (p ∷ ps) a = ap (λ l. l ++ numbers_at number ps) (at_none p (a 0 p (omega arith))) ∙ none_there ps (λ k d l. a (suc k) d (omega (arith, l)))
+
+  is_away : (ps : List (Place T)) → All (λ p. task_at p ≡ None) ps → (i : ℕ) (p : Place T) → slice_get ps i ≡ Some p → task_at p ≡ None
+  is_away [] a i p g = absurd (cc)
+  is_away (x ∷ ps) a zero p g = let same : x ≡ p = cc in ap task_at (sym same) ∙ a 0 x (omega arith)
+  is_away (x ∷ ps) a (suc i) p g = is_away ps (λ k d l. a (suc k) d (omega (arith, l))) i p g
+
+  pub none_placed : (ps : List (Place T)) → All (λ p. task_at p ≡ None) ps → ArePlaced number ps
+  none_placed ps a i p t g s = let e : None ≡ Some t = sym (is_away ps a i p g) ∙ s in absurd (cc)
 
   pub counted_length : (from count : ℕ) (ts : List T) → map number ts ≡ counting from count → length ts ≡ count
   counted_length from zero [] e = refl
   counted_length from (suc count) [] e = absurd (cc)
   counted_length from zero (t ∷ ts) e = absurd (cc)
   counted_length from (suc count) (t ∷ ts) e = let rest : map number ts ≡ counting (suc from) count = cc in ap suc (counted_length (suc from) count ts rest)
-
-  pub laid_length : (from count : ℕ) (ts : List T) → map number ts ≡ counting from count → length (map (λ (t : T). Ready t) ts) ≡ count
-  laid_length from zero [] e = refl
-  laid_length from (suc count) [] e = absurd (cc)
-  laid_length from zero (t ∷ ts) e = absurd (cc)
-  laid_length from (suc count) (t ∷ ts) e = let rest : map number ts ≡ counting (suc from) count = cc in ap suc (laid_length (suc from) count ts rest)
-
-  laid_from : (from count : ℕ) (ts : List T) → map number ts ≡ counting from count → (i : ℕ) (p : Place T) (t : T) → slice_get (map (λ t. Ready t) ts) i ≡ Some p → task_at p ≡ Some t → number t ≡ from + i
-  laid_from from count [] e i p t g a = absurd (cc)
-  laid_from from zero (s ∷ ts) e i p t g a = absurd (cc)
-  laid_from from (suc count) (s ∷ ts) e zero p t g a =
-      let same : Ready s ≡ p = cc in
-      let one : Some s ≡ Some t = ap task_at same ∙ a in
-      let is : s ≡ t = cc in
-      let n : number s ≡ from = cc in omega (arith, n, ap number is)
-  laid_from from (suc count) (s ∷ ts) e (suc i) p t g a = let rest : map number ts ≡ counting (suc from) count = cc in omega (arith, laid_from (suc from) count ts rest i p t g a)
-
-  pub laid_placed : (count : ℕ) (ts : List T) → map number ts ≡ counting 0 count → ArePlaced number (map (λ t. Ready t) ts)
-  laid_placed count ts e i p t g a = omega (arith, laid_from 0 count ts e i p t g a)
 
 pub set_length : {X : Type 0} (xs : List X) (i : ℕ) (x : X) → length (slice_set xs i x) ≡ length xs
 set_length [] i x = refl
@@ -211,12 +186,21 @@ get_set (z ∷ xs) (suc i) x (suc j) y e = elim (get_set xs i x j y e) [
   | inr s ↦ inr s
 ]
 
--- a task that comes to the place of its number
-pub set_placed : {T : Type 0} (number : T → ℕ) (s : T) (ps : List (Place T)) (i : ℕ) (q : Place T) → ArePlaced number ps → number s ≡ i → task_at q ≡ Some s → ArePlaced number (slice_set ps i q)
-set_placed number s ps i q placed n is j p t g a = elim (get_set ps i q j p g) [
-  | inl here ↦ let one : Some s ≡ Some t = sym is ∙ ap task_at here.1 ∙ a in let same : s ≡ t = cc in omega (arith, ap number same, n, here.0)
-  | inr there ↦ placed j p t there a
-]
+module _ {T : Type 0} (number : T → ℕ) where
+  -- another value at a place, where a task that lies there has its number
+  set_placed : (ps : List (Place T)) (i : ℕ) (q : Place T) → ArePlaced number ps → ((t : T) → task_at q ≡ Some t → number t ≡ i) → ArePlaced number (slice_set ps i q)
+  set_placed ps i q placed n j p t g a = elim (get_set ps i q j p g) [
+    | inl here ↦ omega (arith, n t (ap task_at here.1 ∙ a), here.0)
+    | inr there ↦ placed j p t there a
+  ]
+
+  pub taken_placed : (o : Option T) (ps : List (Place T)) (i : ℕ) (p q : Place T) → ArePlaced number ps → i < length ps → p ≡ slice_index_or ps i p → MatchOption o (task_at q ≡ task_at p) (λ t. (task_at p ≡ Some t) × (task_at q ≡ None)) → ArePlaced number (slice_set ps i q)
+  taken_placed None ps i p q placed l e m = set_placed ps i q placed (λ t a. placed i p t (get_at number ps i p l e) (sym m ∙ a))
+  taken_placed (Some s) ps i p q placed l e m = set_placed ps i q placed (λ t a. let x : None ≡ Some t = sym m.1 ∙ a in absurd (cc))
+
+  pub put_placed : (o : Option T) (s : T) (ps : List (Place T)) (i : ℕ) (p q : Place T) → ArePlaced number ps → i < length ps → p ≡ slice_index_or ps i p → number s ≡ i → MatchOption o ((task_at p ≡ None) × (task_at q ≡ Some s)) (λ t. (t ≡ s) × (task_at q ≡ task_at p)) → ArePlaced number (slice_set ps i q)
+  put_placed None s ps i p q placed l e n m = set_placed ps i q placed (λ t a. let one : Some s ≡ Some t = sym m.1 ∙ a in let same : s ≡ t = cc in sym (ap number same) ∙ n)
+  put_placed (Some t) s ps i p q placed l e n m = set_placed ps i q placed (λ x a. placed i p x (get_at number ps i p l e) (sym m.1 ∙ a))
 
 -- ---- lists that are emptied from behind
 
@@ -256,3 +240,16 @@ counting_last from (suc n) = let e : from + suc n ≡ suc from + n = omega arith
 
 pub counting_next : (n : ℕ) → counting 0 n ++ n ∷ [] ≡ counting 0 (n + 1)
 counting_next n = let e : 0 + n ≡ n = omega arith in let s : suc n ≡ n + 1 = omega arith in ap (λ k. counting 0 n ++ k ∷ []) (sym e) ∙ counting_last 0 n ∙ ap (counting 0) s
+
+-- ---- each below a place
+
+same_or : {X : Type 0} (xs : List X) (n : ℕ) (x d : X) → n < length xs → x ≡ slice_index_or xs n x → x ≡ slice_index_or xs n d
+same_or [] n x d l e = absurd (omega (arith, l))
+same_or (y ∷ xs) zero x d l e = e
+same_or (y ∷ xs) (suc n) x d l e = same_or xs n x d (omega (arith, l)) e
+
+pub below_more : {X : Type 0} (P : X → Type 0) (xs : List X) (n : ℕ) (x : X) → ((k : ℕ) (d : X) → k < n → P (slice_index_or xs k d)) → n < length xs → x ≡ slice_index_or xs n x → P x → (k : ℕ) (d : X) → k < n + 1 → P (slice_index_or xs k d)
+below_more P xs n x below l e p k d lt = elim (cases_Bool (k == n)) [
+  | inl b ↦ let s : k ≡ n = grind (arith, nat_tests) in subst (λ j. P (slice_index_or xs j d)) (sym s) (subst P (same_or xs n x d l e) p)
+  | inr b ↦ let s : (k ≡ n → ⊥) = grind (arith, nat_tests) in below k d (omega (arith, lt, s))
+]

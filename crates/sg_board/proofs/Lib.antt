@@ -1,3 +1,4 @@
-pub mod Laid
+mod Laid
 mod Moves
+mod Sums
 mod Weights

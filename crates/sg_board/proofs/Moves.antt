@@ -1,91 +1,76 @@
--- Tasks that leave a board, and come back.
-use Rattle.std.proofs.Common.{◌≡◌, ℕ, ◌+◌, ◌-◌, ◌<◌, ◌^◌, ◌==◌, cond, List, [], ◌∷◌, ◌++◌, sym, ap, ◌∙◌, subst, arith}
+-- Tasks that come to a worker's share, and leave it.
+use Rattle.std.proofs.Common.{◌≡◌, ℕ, zero, suc, ◌+◌, ◌<◌, List, [], ◌∷◌, ◌++◌, length, map, sym, refl, ap, ◌∙◌, arith, slice_set, slice_index_or, option_to_list}
 use Rattle.std.specs.Prelude.{Option, Some, None, MatchOption}
-use Rattle.sg_board.specs.Weighing.{weigh, weigh_option, worker_view, all_parts, times, HoldsTasks, IsFree, Took, Gave}
+use Rattle.sg_board.specs.Weighing.{weigh, weigh_option, total, given_by, taken_by, Took, Gave, Moves}
+use Rattle.sg_board.specs.Shapes.{DequeId, Shape, shape_of}
 use Rattle.sg_board.specs.declared.worker_view.WorkerView.{WorkerView}
-use Rattle.sg_board.specs.Places.{counting}
-use Rattle.sg_board.proofs.Laid.{at_most_once, itself_once}
 use Rattle.sg_board.proofs.Weights.{weigh-append}
 
+pub same_shape : (d e : DequeId) (p q : ℕ) (xs ys : List DequeId) → d ≡ e → p ≡ q → xs ≡ ys → shape_of d p xs ≡ shape_of e q ys
+same_shape d e p q xs ys a b c = λ i. shape_of (a i) (b i) (c i)
+
+pub took_weight : (v w : WorkerView) (ns : List ℕ) (k : ℕ) → Took v ns k w → (h : ℕ → ℕ) → (weigh h w.taken ≡ weigh h v.taken + weigh h ns) × (weigh h w.given ≡ weigh h v.given)
+took_weight v w ns k e h = (ap (λ (u : WorkerView). weigh h u.taken) e ∙ weigh-append h v.taken ns, ap (λ (u : WorkerView). weigh h u.given) e)
+
+pub gave_weight : (v w : WorkerView) (ns : List ℕ) (k : ℕ) → Gave v ns k w → (h : ℕ → ℕ) → (weigh h w.given ≡ weigh h v.given + weigh h ns) × (weigh h w.taken ≡ weigh h v.taken)
+gave_weight v w ns k e h = (ap (λ (u : WorkerView). weigh h u.given) e ∙ weigh-append h v.given ns, ap (λ (u : WorkerView). weigh h u.taken) e)
+
 module _ {T : Type 0} (number : T → ℕ) where
-  -- what is at a worker once a task was picked
-  pub left_over : Option T → List ℕ → List ℕ
-  left_over None l = l
-  left_over (Some t) l = number t ∷ l
+  -- a task was taken, or none was there
+  pub popped : (X : Type 0) (o : Option T) (v w : WorkerView) → MatchOption o ((w ≡ v) × X) (λ t. Took v (number t ∷ []) v.boards w) → (h : ℕ → ℕ) → (weigh h w.taken ≡ weigh h v.taken + weigh_option number h o) × (weigh h w.given ≡ weigh h v.given)
+  popped X None v w m h = (omega (arith, ap (λ (u : WorkerView). weigh h u.taken) m.0), ap (λ (u : WorkerView). weigh h u.given) m.0)
+  popped X (Some t) v w m h = let a = took_weight v w (number t ∷ []) v.boards m h in (omega (arith, a.0), a.1)
 
-  pub picked_whole : (o : Option T) (held out numbers numbers' : List ℕ) → out ≡ numbers → ((h : ℕ → ℕ) → MatchOption o (weigh h numbers' ≡ weigh h numbers) (λ t. h (number t) + weigh h numbers' ≡ weigh h numbers)) → (h : ℕ → ℕ) → weigh h (left_over o held) + weigh h numbers' ≡ weigh h held + weigh h out
-  unfolding left_over
-  picked_whole None held out numbers numbers' is e h = let a = e h in let b = ap (weigh h) is in omega arith
-  picked_whole (Some t) held out numbers numbers' is e h = let a = e h in let b = ap (weigh h) is in omega arith
+  pub popped_parts : (X : Type 0) (o : Option T) (v w : WorkerView) → MatchOption o ((w ≡ v) × X) (λ t. Took v (number t ∷ []) v.boards w) → w.parts ≡ v.parts
+  popped_parts X None v w m = ap (λ (u : WorkerView). u.parts) m.0
+  popped_parts X (Some t) v w m = ap (λ (u : WorkerView). u.parts) m
 
-  picked_held : (o : Option T) (left held out numbers numbers' : List ℕ) (h : ℕ → ℕ) → out ≡ numbers → weigh h held ≡ 0 → MatchOption o (weigh h numbers' ≡ weigh h numbers) (λ t. h (number t) + weigh h numbers' ≡ weigh h numbers) → weigh h left + weigh h numbers' ≡ weigh h held + weigh h out
-      → weigh h left ≡ weigh_option number h o
-  picked_held None left held out numbers numbers' h is none e w = let b = ap (weigh h) is in omega arith
-  picked_held (Some t) left held out numbers numbers' h is none e w = let b = ap (weigh h) is in omega arith
+  pub pushed : (t : T) (v w : WorkerView) → Gave v (number t ∷ []) v.boards w → (h : ℕ → ℕ) → (weigh h w.given ≡ weigh h v.given + h (number t)) × (weigh h w.taken ≡ weigh h v.taken)
+  pushed t v w m h = let a = gave_weight v w (number t ∷ []) v.boards m h in (omega (arith, a.0), a.1)
 
-  -- a free worker took the board, picked a task where there was one, and gave the board back
-  pub picked : (all : List ℕ) (o : Option T) (v x w : WorkerView) (numbers numbers' : List ℕ) → IsFree v → Took all v numbers x → ((h : ℕ → ℕ) → MatchOption o (weigh h numbers' ≡ weigh h numbers) (λ t. h (number t) + weigh h numbers' ≡ weigh h numbers)) → Gave x numbers' w → HoldsTasks v w (λ h. weigh_option number h o)
-  picked all o v x w numbers numbers' free took e gave = record {
-    parts = ap (λ (u : WorkerView). u.parts) gave.same ∙ ap (λ (u : WorkerView). u.parts) took.same;
-    boards = ap (λ (u : WorkerView). u.boards) gave.same;
-    out = ap (λ (u : WorkerView). u.out) gave.same;
-    held = λ h. ap (λ (u : WorkerView). weigh h u.held) gave.same ∙ picked_held o gave.left x.held x.out numbers numbers' h (ap (λ (u : WorkerView). u.out) took.same) (ap (λ (u : WorkerView). weigh h u.held) took.same ∙ free.held h) (e h) (gave.whole h);
-  }
+  -- a list of tasks that one leaves at the front
+  pub fewer_kept : (o : Option T) (old new : List T) → old ≡ option_to_list o ++ new → (h : ℕ → ℕ) → weigh h (map number old) ≡ weigh_option number h o + weigh h (map number new)
+  fewer_kept None old new e h = omega (arith, ap (λ l. weigh h (map number l)) e)
+  fewer_kept (Some t) old new e h = omega (arith, ap (λ l. weigh h (map number l)) e)
 
--- a task that is at a worker is not on the board
-pub is_away : (n total : ℕ) (v x : WorkerView) (numbers : List ℕ) → ((h : ℕ → ℕ) → weigh h v.held ≡ h n) → Took (counting 0 total) v numbers x → times n numbers ≡ 0
-is_away n total v x numbers held took = omega (arith, held (λ k. cond (k == n) 1 0), took.some_of (λ k. cond (k == n) 1 0), at_most_once n 0 total, itself_once n)
+  weigh_snoc : (h : ℕ → ℕ) (ts : List T) (t : T) → weigh h (map number (ts ++ t ∷ [])) ≡ weigh h (map number ts) + h (number t)
+  weigh_snoc h [] t = omega arith
+  weigh_snoc h (x ∷ ts) t = omega (arith, weigh_snoc h ts t)
 
--- the board with the task is all that the worker had
-pub put_whole : (n : ℕ) (all : List ℕ) (v x : WorkerView) (numbers before after : List ℕ) → ((h : ℕ → ℕ) → weigh h v.held ≡ h n) → Took all v numbers x → before ≡ numbers → ((h : ℕ → ℕ) → weigh h after ≡ h n + weigh h before) → (h : ℕ → ℕ) → weigh h [] + weigh h after ≡ weigh h x.held + weigh h x.out
-put_whole n all v x numbers before after held took same put h =
-    omega (arith, held h, put h, ap (weigh h) same, ap (λ (u : WorkerView). weigh h u.held) took.same, ap (λ (u : WorkerView). weigh h u.out) took.same)
+  -- and that one joins at the back
+  pub more_kept : (old new : List T) (t : T) → new ≡ old ++ t ∷ [] → (h : ℕ → ℕ) → weigh h (map number new) ≡ weigh h (map number old) + h (number t)
+  more_kept old new t e h = ap (λ l. weigh h (map number l)) e ∙ weigh_snoc h old t
 
-pub put_free : (n : ℕ) (all : List ℕ) (v x w : WorkerView) (numbers before after : List ℕ) → ((h : ℕ → ℕ) → weigh h v.held ≡ h n) → Took all v numbers x → before ≡ numbers → ((h : ℕ → ℕ) → weigh h after ≡ h n + weigh h before) → Gave x after w → HoldsTasks v w (λ h. 0)
-put_free n all v x w numbers before after held took same put gave = record {
-  parts = ap (λ (u : WorkerView). u.parts) gave.same ∙ ap (λ (u : WorkerView). u.parts) took.same;
-  boards = ap (λ (u : WorkerView). u.boards) gave.same;
-  out = ap (λ (u : WorkerView). u.out) gave.same;
-  held = λ h. omega (arith, put_whole n all v x numbers before after held took same put h, gave.whole h, ap (λ (u : WorkerView). weigh h u.held) gave.same);
-}
+-- ---- another value in a list
 
--- another worker's view joins
-pub joined_free : (v u w : WorkerView) → IsFree v → IsFree u → u.parts ≡ 1 → w ≡ worker_view (v.parts + u.parts) (v.held ++ u.held) (v.out ++ u.out) (v.boards + u.boards) → IsFree w × (w.parts ≡ v.parts + 1)
-joined_free v u w a b c e = let P : WorkerView → Type 0 = λ w. IsFree w × (w.parts ≡ v.parts + 1) in subst P (sym e) (
-  record {
-    parts = let x = a.parts in omega arith;
-    boards = let x = a.boards in let y = b.boards in omega arith;
-    out = (λ i. a.out i ++ b.out i);
-    held = λ h. let x = a.held h in let y = b.held h in let z = weigh-append h v.held u.held in omega arith;
-  },
-  ap (λ n. v.parts + n) c,
-)
+module _ {X : Type 0} where
+  pub total_map_set : (f : WorkerView → ℕ) (g : X → WorkerView) (xs : List X) (i : ℕ) (p q : X) → i < length xs → p ≡ slice_index_or xs i p → total f (map g (slice_set xs i q)) + f (g p) ≡ total f (map g xs) + f (g q)
+  total_map_set f g [] i p q l e = absurd (omega (arith, l))
+  total_map_set f g (x ∷ xs) zero p q l e = let k : f (g p) ≡ f (g x) = ap (λ y. f (g y)) e in omega (arith, k)
+  total_map_set f g (x ∷ xs) (suc i) p q l e = omega (arith, total_map_set f g xs i p q (omega (arith, l)) e)
 
--- from the lock's making to its end: all tasks are on the board
-pub finished : (all : List ℕ) (first opened hired done taken : WorkerView) (workers n : ℕ) (before after : List ℕ) → first ≡ worker_view all_parts all [] 1 → before ≡ all → Gave first before opened → hired ≡ worker_view (all_parts - workers) opened.held opened.out opened.boards
-    → IsFree done → done.parts ≡ hired.parts + n → n ≡ workers → Took all done after taken → workers < 2 ^ 32 → (taken.parts ≡ all_parts → taken.boards ≡ 1 → (h : ℕ → ℕ) → weigh h taken.held + weigh h taken.out ≡ weigh h all)
-    → (h : ℕ → ℕ) → weigh h after ≡ weigh h all
-finished all first opened hired done taken workers n before after a full b c d e e' t small learned h =
-    let tp = ap (λ (v : WorkerView). v.parts) t.same in let hp = ap (λ (v : WorkerView). v.parts) c in
-    let l = learned (omega arith) (ap (λ (v : WorkerView). v.boards) t.same) h in
-    let th = ap (λ (v : WorkerView). weigh h v.held) t.same in let to = ap (λ (v : WorkerView). weigh h v.out) t.same in let none = d.held h in omega arith
+  pub map_set : {Y : Type 0} (g : X → Y) (xs : List X) (i : ℕ) (p q : X) → p ≡ slice_index_or xs i p → g q ≡ g p → map g (slice_set xs i q) ≡ map g xs
+  map_set g [] i p q e s = refl
+  map_set g (x ∷ xs) zero p q e s = ap (λ y. y ∷ map g xs) (s ∙ ap g e)
+  map_set g (x ∷ xs) (suc i) p q e s = ap (λ l. g x ∷ l) (map_set g xs i p q e s)
 
--- once the board was given for the first time, nothing is left in hand
-pub begun : (all : List ℕ) (first opened : WorkerView) (before : List ℕ) → first ≡ worker_view all_parts all [] 1 → before ≡ all → Gave first before opened → (opened.parts ≡ all_parts) × (opened.boards ≡ 0) × (opened.out ≡ []) × ((h : ℕ → ℕ) → weigh h opened.held ≡ 0)
-begun all first opened before a full b = (
-  ap (λ (v : WorkerView). v.parts) b.same ∙ ap (λ (v : WorkerView). v.parts) a,
-  ap (λ (v : WorkerView). v.boards) b.same,
-  ap (λ (v : WorkerView). v.out) b.same,
-  λ h. let w = b.whole h in let x = ap (λ (v : WorkerView). weigh h v.held) a in let y = ap (λ (v : WorkerView). weigh h v.out) a in let f = ap (weigh h) full in let z = ap (λ (v : WorkerView). weigh h v.held) b.same in omega arith,
-)
+  -- a task was taken through one of the ways, or none was there
+  pub stole : {T : Type 0} (number : T → ℕ) (g : X → WorkerView) (o : Option T) (xs : List X) (i : ℕ) (p q : X) → i < length xs → p ≡ slice_index_or xs i p → MatchOption o (g q ≡ g p) (λ t. Took (g p) (number t ∷ []) (g p).boards (g q)) → (h : ℕ → ℕ)
+      → (total (taken_by h) (map g (slice_set xs i q)) ≡ total (taken_by h) (map g xs) + weigh_option number h o) × (total (given_by h) (map g (slice_set xs i q)) ≡ total (given_by h) (map g xs))
+  stole number g None xs i p q l e m h = let a = total_map_set (taken_by h) g xs i p q l e in let b = total_map_set (given_by h) g xs i p q l e in let c = ap (taken_by h) m in let d = ap (given_by h) m in (omega (arith, a, c), omega (arith, b, d))
+  stole number g (Some t) xs i p q l e m h = let a = total_map_set (taken_by h) g xs i p q l e in let b = total_map_set (given_by h) g xs i p q l e in let c = took_weight (g p) (g q) (number t ∷ []) (g p).boards m h in (omega (arith, a, c.0), omega (arith, b, c.1))
 
--- once the workers have their parts, the first pass is free
-pub hired_free : (all : List ℕ) (first opened hired : WorkerView) (workers : ℕ) (before : List ℕ) → first ≡ worker_view all_parts all [] 1 → before ≡ all → Gave first before opened → hired ≡ worker_view (all_parts - workers) opened.held opened.out opened.boards → workers < 2 ^ 32 → IsFree hired
-hired_free all first opened hired workers before a full b c small =
-    let o = begun all first opened before a full b in
-    record {
-      parts = let p = ap (λ (v : WorkerView). v.parts) c in omega arith;
-      boards = ap (λ (v : WorkerView). v.boards) c ∙ o.1;
-      out = ap (λ (v : WorkerView). v.out) c ∙ o.2;
-      held = λ h. ap (λ (v : WorkerView). weigh h v.held) c ∙ o.3 h;
-    }
+  pub set_len : (xs : List X) (i : ℕ) (q : X) → length (slice_set xs i q) ≡ length xs
+  set_len [] i q = refl
+  set_len (x ∷ xs) zero q = refl
+  set_len (x ∷ xs) (suc i) q = ap suc (set_len xs i q)
+
+pub is_none : {T : Type 0} (number : T → ℕ) (o : Option T) → o ≡ None → (h : ℕ → ℕ) → weigh_option number h o ≡ 0
+is_none number o e h = ap (weigh_option number h) e
+
+pub is_some : {T : Type 0} (number : T → ℕ) (o : Option T) (t : T) → o ≡ Some t → (h : ℕ → ℕ) → weigh_option number h o ≡ h (number t)
+is_some number o t e h = ap (weigh_option number h) e
+
+-- one step after another
+pub moves_on : {S Y : Type 0} (given taken : S → (ℕ → ℕ) → ℕ) (shape : S → Y) (a b c : S) (came went came' went' : (ℕ → ℕ) → ℕ) → Moves given taken shape a b came went → Moves given taken shape b c came' went' → Moves given taken shape a c (λ h. came h + came' h) (λ h. went h + went' h)
+moves_on given taken shape a b c came went came' went' m n = record { same = n.same ∙ m.same; flow = λ h. let x = m.flow h in let y = n.flow h in omega arith }

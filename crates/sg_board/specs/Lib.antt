@@ -1,2 +1,4 @@
 pub mod Places
+pub mod Shapes
+pub mod Shares
 pub mod Weighing

@@ -1,7 +1,7 @@
 -- The tasks on a board, by their numbers.
 use Rattle.std.specs.Prelude.{◌≡◌, ℕ, zero, suc, List, [], ◌∷◌, ◌++◌, Option, Some, None, slice_get}
 use Rattle.sg_board.specs.declared.place.Place.{Place}
-use Rattle.sg_board.specs.declared.place.Place.TheVariants.{Away, Ready, Waiting, Ended}
+use Rattle.sg_board.specs.declared.place.Place.TheVariants.{Away, Waiting, Ended}
 
 -- so many numbers, from this one on
 abbrev pub counting : ℕ → ℕ → List ℕ
@@ -9,10 +9,9 @@ counting from zero = []
 counting from (suc n) = from ∷ counting (suc from) n
 
 module _ {T : Type 0} where
-  -- the task that lies at a place, where it is not at a worker
+  -- the task that lies at a place, where it is not with the workers
   abbrev pub task_at : Place T → Option T
   task_at (Away woken) = None
-  task_at (Ready t) = Some t
   task_at (Waiting t) = Some t
   task_at (Ended t) = Some t
 
@@ -23,7 +22,6 @@ module _ {T : Type 0} where
   -- the number of the task that lies at a place
   abbrev pub number_at : (T → ℕ) → Place T → List ℕ
   number_at number (Away woken) = []
-  number_at number (Ready t) = number t ∷ []
   number_at number (Waiting t) = number t ∷ []
   number_at number (Ended t) = number t ∷ []
 

@@ -1,5 +1,5 @@
--- The rule of the lock: each task is on the board or at one worker, once.
-use Rattle.std.specs.Prelude.{◌≡◌, ℕ, ◌+◌, ◌≤◌, ◌==◌, cond, List, [], ◌∷◌, length, Option, Some, None}
+-- The rules of the lock and of a deque: what lies there is what was given and not taken.
+use Rattle.std.specs.Prelude.{◌≡◌, ℕ, ◌+◌, ◌≤◌, ◌==◌, cond, List, [], ◌∷◌, ◌++◌, length, Option, Some, None}
 use mathlib.Core.Option.{some}
 use lib.ListN.{get_elem?}
 use Rattle.sg_board.specs.declared.worker_view.WorkerView.{WorkerView}
@@ -13,67 +13,81 @@ weigh h (x ∷ xs) = h x + weigh h xs
 abbrev pub times : ℕ → List ℕ → ℕ
 times n xs = weigh (λ x. cond (x == n) 1 0) xs
 
--- what the workers have of this, added up
+-- what the passes have of this, added up
 abbrev pub total : (WorkerView → ℕ) → List WorkerView → ℕ
 total f [] = 0
 total f (v ∷ vs) = f v + total f vs
 
--- a worker with so many parts, these tasks at it, these on the board that it has, and so many boards
-abbrev pub worker_view : ℕ → List ℕ → List ℕ → ℕ → WorkerView
-worker_view p l o k = record { parts = p; held = l; out = o; boards = k }
+-- a pass with so many parts, which gave these tasks and took these, and so many boards
+abbrev pub account : ℕ → List ℕ → List ℕ → ℕ → WorkerView
+account p g t k = record { parts = p; given = g; taken = t; boards = k }
 
 -- more than there are workers
 abbrev pub all_parts : ℕ
 all_parts = 4294967297
 
--- the weights of the tasks on these boards, added up
+-- the weights of the tasks in these things, added up
 abbrev pub weigh_all : {B : Type 0} → (B → List ℕ) → (ℕ → ℕ) → List B → ℕ
 weigh_all numbers h [] = 0
 weigh_all numbers h (b ∷ bs) = weigh h (numbers b) + weigh_all numbers h bs
 
--- the weight of the tasks that a worker has, with those of the board while it has that
-abbrev pub in_progress : (ℕ → ℕ) → WorkerView → ℕ
-in_progress h v = weigh h v.held + weigh h v.out
+-- what things have of this, added up
+abbrev pub adds : {S : Type 0} → (S → ℕ) → List S → ℕ
+adds f [] = 0
+adds f (x ∷ xs) = f x + adds f xs
 
--- a pass with no part has nothing
+-- its parts of the right to know the whole
+abbrev pub parts_of : WorkerView → ℕ
+parts_of v = v.parts
+
+-- the weight of the tasks that a pass gave
+abbrev pub given_by : (ℕ → ℕ) → WorkerView → ℕ
+given_by h v = weigh h v.given
+
+-- the weight of the tasks that it took
+abbrev pub taken_by : (ℕ → ℕ) → WorkerView → ℕ
+taken_by h v = weigh h v.taken
+
+-- a pass with no part has done nothing
 pub record IsIdle (v : WorkerView) : Type 0 where
   pub boards : v.boards ≡ 0
-  pub held : v.held ≡ []
-  pub out : v.out ≡ []
+  pub given : v.given ≡ []
+  pub taken : v.taken ≡ []
 
--- all parts are given out, there is at most one board, and each task is on it or at a worker, as often as it stands in the list of all
-pub record Kept {B : Type 0} (numbers : B → List ℕ) (all : List ℕ) (items : List B) (views : List WorkerView) : Type 0 where
+-- all parts are given out, and what lies here is what was given and not taken
+pub record Kept {B : Type 0} (numbers : B → List ℕ) (items : List B) (views : List WorkerView) : Type 0 where
   pub parts : total (λ v. v.parts) views ≡ all_parts
-  pub single : length items + total (λ v. v.boards) views ≤ 1
-  pub whole : (h : ℕ → ℕ) → total (in_progress h) views + weigh_all numbers h items ≡ weigh h all
+  pub whole : (h : ℕ → ℕ) → weigh_all numbers h items + total (taken_by h) views ≡ total (given_by h) views
   pub idle : (j : ℕ) (v : WorkerView) → get_elem? views j ≡ some v → v.parts ≡ 0 → IsIdle v
 
--- the board with these tasks was taken; with those at the worker they are some of all
-pub record Took (all : List ℕ) (v : WorkerView) (board : List ℕ) (w : WorkerView) : Type 0 where
-  pub same : w ≡ worker_view v.parts v.held board 1
-  pub some_of : (h : ℕ → ℕ) → weigh h v.held + weigh h board ≤ weigh h all
+-- besides, there is at most one board
+pub record KeptOne {B : Type 0} (numbers : B → List ℕ) (items : List B) (views : List WorkerView) : Type 0 where
+  pub kept : Kept numbers items views
+  pub single : length items + total (λ v. v.boards) views ≤ 1
 
--- the board was given back with these tasks
-pub record Gave (v : WorkerView) (board : List ℕ) (w : WorkerView) : Type 0 where
-  pub left : List ℕ
-  pub same : w ≡ worker_view v.parts left [] 0
-  pub whole : (h : ℕ → ℕ) → weigh h left + weigh h board ≡ weigh h v.held + weigh h v.out
+-- these tasks were taken, and the pass has so many boards from then on
+abbrev pub Took : WorkerView → List ℕ → ℕ → WorkerView → Type 0
+Took v numbers k w = w ≡ account v.parts v.given (v.taken ++ numbers) k
 
--- a worker between two tasks
+-- these tasks were given
+abbrev pub Gave : WorkerView → List ℕ → ℕ → WorkerView → Type 0
+Gave v numbers k w = w ≡ account v.parts (v.given ++ numbers) v.taken k
+
+-- a worker's pass between two tasks: it has its part, and no board
 pub record IsFree (v : WorkerView) : Type 0 where
-  pub parts : 1 ≤ v.parts
+  pub parts : v.parts ≡ 1
   pub boards : v.boards ≡ 0
-  pub out : v.out ≡ []
-  pub held : (h : ℕ → ℕ) → weigh h v.held ≡ 0
 
--- the same worker, without the board, with tasks of this weight
-pub record HoldsTasks (v w : WorkerView) (weight : (ℕ → ℕ) → ℕ) : Type 0 where
-  pub parts : w.parts ≡ v.parts
-  pub boards : w.boards ≡ 0
-  pub out : w.out ≡ []
-  pub held : (h : ℕ → ℕ) → weigh h w.held ≡ weight h
+-- who has every part knows that where nothing is left all that was given was taken
+abbrev pub IsBalanced : WorkerView → Type 0
+IsBalanced v = v.parts ≡ all_parts → (h : ℕ → ℕ) → weigh h v.taken ≡ weigh h v.given
 
 -- the weight of a task, where there is one
 abbrev pub weigh_option : {T : Type 0} → (T → ℕ) → (ℕ → ℕ) → Option T → ℕ
 weigh_option number h None = 0
 weigh_option number h (Some t) = h (number t)
+
+-- tasks of the one weight came from elsewhere, and tasks of the other went there: for the rest, what was taken is given or kept. The shape stays
+pub record Moves {S X : Type 0} (given taken : S → (ℕ → ℕ) → ℕ) (shape : S → X) (old new : S) (came went : (ℕ → ℕ) → ℕ) : Type 0 where
+  pub same : shape new ≡ shape old
+  pub flow : (h : ℕ → ℕ) → taken new h + given old h + came h ≡ taken old h + given new h + went h

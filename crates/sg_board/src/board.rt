@@ -1,152 +1,84 @@
 //! The tasks under the lock.
-ghost use Rattle.std.specs.Prelude.{◌≡◌, ◌+◌, ◌≤◌, ℕ, [], map, vec_capacity, IfOk, MatchOption};
+ghost use Rattle.std.specs.Prelude.{◌≡◌, ◌+◌, ◌≤◌, ℕ, [], map, vec_capacity, IfOk};
 
 use crate::lock::TaskHolder;
 use crate::places::Places;
 use crate::progress::Progress;
 use crate::task::Task;
 use std::alloc::{AllocError, Global};
-use std::collections::VecDeque;
 
-/// The tasks that are at no worker. A number is listed as ready once for each time that its task became so; a task that found
-/// no room in the list is listed anew when no other is ready or at a worker.
+/// The tasks that wait or have ended. The others are with the workers: ready, or at one that makes their steps.
 #[derive(Drop)]
 pub(crate) struct Board<T: Task> {
     pub(crate) places: Places<T>,
-    ready: VecDeque<u32>,
-    /// How many tasks are at workers.
+    /// How many tasks are with the workers.
     away: u64,
-    /// Whether no worker is to take a task any more.
-    stops: bool,
-    /// Whether at the last pick those that waited went on anew.
-    renewed: bool,
 }
 
 impl<T: Task> TaskHolder for Board<T> {
-    ghost use Rattle.sg_board.specs.Places.{numbers_at, counting};
+    ghost use Rattle.sg_board.specs.Places.{numbers_at};
 
     ghost numbers = { λ b. numbers_at T.number b.places.places.items };
-
-    ghost all = { counting 0 T.total };
 }
 
 impl<T: Task> Board<T> {
-    ghost use Rattle.std.specs.Prelude.{◌≡◌, ◌+◌, ◌≤◌, ℕ, [], map, vec_capacity, IfOk, MatchOption};
-    ghost use Rattle.sg_board.specs.Weighing.{weigh, times};
+    ghost use Rattle.std.specs.Prelude.{◌≡◌, ◌+◌, ◌≤◌, ℕ, [], map, vec_capacity, IfOk};
+    ghost use Rattle.sg_board.specs.Weighing.{weigh, weigh_option};
     ghost use Rattle.sg_board.specs.Places.{numbers_at, counting};
 
-    /// A board with all tasks, which are ready.
-    pub(crate) fn new(alloc: Global, tasks: Vec<T>) -> Result<Board<T>, AllocError>
-        requires { map T.number tasks.items ≡ counting 0 T.total }
-        ensures { IfOk result (λ b. numbers_at T.number b.places.places.items ≡ counting 0 T.total) }
+    /// A board for so many tasks, which are with the workers.
+    pub(crate) fn new(alloc: Global, count: usize) -> Result<Board<T>, AllocError>
+        requires { count ≡ T.total }
+        ensures { IfOk result (λ b. numbers_at T.number b.places.places.items ≡ []) }
     {
-        let ready = VecDeque::with_capacity(alloc, tasks.len())?;
-        let places = Places::new(alloc, tasks)?;
-        let mut board = Board {
-            places,
-            ready,
-            away: 0,
-            stops: false,
-            renewed: false,
-        };
-        board.list_ready();
-        Ok(board)
+        let places = Places::new(alloc, count)?;
+        let away = count as u64;
+        Ok(Board { places, away })
     }
 
-    /// Lists all tasks that are ready or wait as ready.
-    fn list_ready(&mut self)
-        ensures { numbers_at T.number self.new.places.places.items ≡ numbers_at T.number self.old.places.places.items }
-    {
-        for number in 0..u32::MAX {
-            if number as usize >= self.places.len() {
-                return;
-            }
-            if self.places.make_ready(number) {
-                self.list(number);
-            }
-        }
+    /// How many tasks the run has.
+    pub(crate) fn len(&self) -> usize {
+        self.places.len()
     }
 
-    /// Lists a task as ready, if there is room.
-    fn list(&mut self, number: u32)
-        ensures { numbers_at T.number self.new.places.places.items ≡ numbers_at T.number self.old.places.places.items }
-    {
-        let _listed = self.ready.push_back(number);
+    /// Whether some task is ready or at a worker.
+    pub(crate) fn has_away(&self) -> bool {
+        self.away > 0
     }
 
-    /// Takes the first task that is listed as ready.
-    fn take_listed(&mut self) -> Option<T>
-        ensures { (h : ℕ → ℕ) → MatchOption result (weigh h (numbers_at T.number self.new.places.places.items) ≡ weigh h (numbers_at T.number self.old.places.places.items)) (λ t. h (T.number t) + weigh h (numbers_at T.number self.new.places.places.items) ≡ weigh h (numbers_at T.number self.old.places.places.items)) }
+    /// Lets the task of this number go on, if there is one, and hands it out where it waits. Where it is with the workers, it
+    /// will not wait after its next step.
+    pub(crate) fn wake(&mut self, number: u32) -> Option<T>
+        ensures { (h : ℕ → ℕ) → weigh_option T.number h result + weigh h (⟦<Board<T> as TaskHolder>⟧.numbers self.new) ≡ weigh h (⟦<Board<T> as TaskHolder>⟧.numbers self.old) }
     {
-        while let Some(number) = self.ready.pop_front() {
-            if let Some(task) = self.places.take_ready(number) {
-                self.away = self.away.saturating_add(1);
-                return Some(task);
-            }
-        }
-        None
+        self.hand_out(number, true)
     }
 
-    /// Takes a ready task. Where none is ready or at a worker, one that waits goes on anew; where there is none either, all
-    /// workers stop.
-    pub(crate) fn pick(&mut self) -> Option<T>
-        ensures { (h : ℕ → ℕ) → MatchOption result (weigh h (⟦<Board<T> as TaskHolder>⟧.numbers self.new) ≡ weigh h (⟦<Board<T> as TaskHolder>⟧.numbers self.old)) (λ t. h (T.number t) + weigh h (⟦<Board<T> as TaskHolder>⟧.numbers self.new) ≡ weigh h (⟦<Board<T> as TaskHolder>⟧.numbers self.old)) }
+    /// Hands out the task of this number where it waits.
+    pub(crate) fn renew(&mut self, number: u32) -> Option<T>
+        ensures { (h : ℕ → ℕ) → weigh_option T.number h result + weigh h (⟦<Board<T> as TaskHolder>⟧.numbers self.new) ≡ weigh h (⟦<Board<T> as TaskHolder>⟧.numbers self.old) }
     {
-        self.renewed = false;
-        if self.stops {
-            return None;
-        }
-        if let Some(task) = self.take_listed() {
-            return Some(task);
-        }
-        if self.away > 0 {
-            return None;
-        }
-        self.list_ready();
-        if let Some(task) = self.take_listed() {
-            self.renewed = true;
-            return Some(task);
-        }
-        self.stops = true;
-        None
+        self.hand_out(number, false)
     }
 
-    /// Lets these tasks go on: those that wait are ready now, and those that are at a worker will be when they are back. How
-    /// many are ready now.
-    pub(crate) fn wake(&mut self, numbers: &[u32]) -> u64
-        ensures { ⟦<Board<T> as TaskHolder>⟧.numbers self.new ≡ ⟦<Board<T> as TaskHolder>⟧.numbers self.old }
+    /// Hands out the task of this number where it waits. Where it is with the workers, it is noted as woken or not.
+    fn hand_out(&mut self, number: u32, notes: bool) -> Option<T>
+        ensures { (h : ℕ → ℕ) → weigh_option T.number h result + weigh h (⟦<Board<T> as TaskHolder>⟧.numbers self.new) ≡ weigh h (⟦<Board<T> as TaskHolder>⟧.numbers self.old) }
     {
-        let mut woken: u64 = 0;
-        for number in numbers {
-            if self.places.wake(*number) {
-                self.list(*number);
-                woken = woken.saturating_add(1);
-            }
-        }
-        woken
+        let task = self.places.take_waiting(number, notes)?;
+        self.away = self.away.saturating_add(1);
+        Some(task)
     }
 
-    /// Puts a task back after a step that told this. How many more tasks are ready now.
-    pub(crate) fn put(&mut self, task: T, told: Progress) -> u64
-        requires away { times (T.number task) (⟦<Board<T> as TaskHolder>⟧.numbers self.old) ≡ 0 }
-        ensures { (h : ℕ → ℕ) → weigh h (⟦<Board<T> as TaskHolder>⟧.numbers self.new) ≡ h (T.number task) + weigh h (⟦<Board<T> as TaskHolder>⟧.numbers self.old) }
+    /// Lays a task down after a step that told this. It comes back where it is ready.
+    pub(crate) fn put(&mut self, task: T, told: Progress) -> Option<T>
+        ensures { (h : ℕ → ℕ) → weigh_option T.number h result + weigh h (⟦<Board<T> as TaskHolder>⟧.numbers self.new) ≡ h (T.number task) + weigh h (⟦<Board<T> as TaskHolder>⟧.numbers self.old) }
     {
-        self.away = self.away.saturating_sub(1);
-        if told.stops_all() {
-            self.stops = true;
+        let ready = self.places.put(task, told);
+        if ready.is_none() {
+            self.away = self.away.saturating_sub(1);
         }
-        let number = task.number();
-        if !self.places.put(task, told) {
-            return 0;
-        }
-        self.list(number);
-        1
-    }
-
-    /// Whether all workers are to look at the board after the last pick: those that waited went on anew, or no worker is to take
-    /// a task any more.
-    pub(crate) fn is_for_all(&self) -> bool {
-        self.stops || self.renewed
+        ready
     }
 
     /// All tasks in their order, once all are back.

@@ -1,7 +1,7 @@
 //! The lock, and what each worker knows.
-ghost use Rattle.std.specs.Prelude.{◌≡◌, ◌<◌, ◌+◌, ℕ, List, [], ◌∷◌, length};
-ghost use Rattle.crossbeam_queue.specs.Passes.{view, IsPassOf, IsSamePass};
-ghost use Rattle.sg_board.specs.Weighing.{weigh, worker_view, Took, Gave};
+ghost use Rattle.std.specs.Prelude.{◌≡◌, ◌<◌, ℕ, List};
+ghost use Rattle.crossbeam_queue.specs.Passes.{view, IsPassOf};
+ghost use Rattle.sg_board.specs.Weighing.{Took, Gave};
 
 use crate::worker_view::WorkerView;
 use crossbeam_queue::protocol::{Join, Lesson, Outcome, Protocol, Split};
@@ -17,56 +17,53 @@ const SPIN_LOOKS: u32 = 64;
 pub(crate) trait TaskHolder {
     /// The numbers of its tasks.
     ghost numbers: { Self → List ℕ };
-
-    /// The numbers of all tasks.
-    ghost all: { List ℕ };
 }
 
-/// The rule of the lock: each task is on the board or at one worker, once.
-pub(crate) struct TaskRule;
+/// The rule of the lock: on the board are the tasks that were given with it and not taken with it.
+pub(crate) struct BoardRule;
 
-impl<B: TaskHolder> Protocol<B, WorkerView> for TaskRule {
+impl<B: TaskHolder> Protocol<B, WorkerView> for BoardRule {
     ghost use Rattle.std.specs.Prelude.{[]};
-    ghost use Rattle.sg_board.specs.Weighing.{Kept, worker_view, all_parts};
+    ghost use Rattle.sg_board.specs.Weighing.{KeptOne, account, all_parts};
 
-    ghost holds = { Kept B.numbers B.all };
+    ghost holds = { KeptOne B.numbers };
 
-    ghost first = { worker_view all_parts B.all [] 1 };
+    ghost first = { account all_parts [] [] 1 };
 }
 
-/// One part goes to another worker, who has nothing.
+/// One part goes to another pass, which has done nothing.
 pub(crate) struct OnePart;
 
 impl Split<WorkerView> for OnePart {
     ghost use Rattle.std.specs.Prelude.{[], ◌-◌};
-    ghost use Rattle.sg_board.specs.Weighing.{worker_view};
+    ghost use Rattle.sg_board.specs.Weighing.{account};
 
-    ghost left = { λ v. worker_view (v.parts - 1) v.held v.out v.boards };
+    ghost left = { λ v. account (v.parts - 1) v.given v.taken v.boards };
 
-    ghost right = { λ v. worker_view 1 [] [] 0 };
+    ghost right = { λ v. account 1 [] [] 0 };
 }
 
 impl Join<WorkerView> for OnePart {
     ghost use Rattle.std.specs.Prelude.{[], ◌+◌, ◌++◌};
-    ghost use Rattle.sg_board.specs.Weighing.{worker_view};
+    ghost use Rattle.sg_board.specs.Weighing.{account};
 
-    ghost both = { λ v w. worker_view (v.parts + w.parts) (v.held ++ w.held) (v.out ++ w.out) (v.boards + w.boards) };
+    ghost both = { λ v w. account (v.parts + w.parts) (v.given ++ w.given) (v.taken ++ w.taken) (v.boards + w.boards) };
 
-    ghost spent = { worker_view 0 [] [] 0 };
+    ghost spent = { account 0 [] [] 0 };
 }
 
 /// The board is taken.
 pub(crate) struct TakesBoard;
 
 impl<B: TaskHolder> Outcome<B, WorkerView> for TakesBoard {
-    ghost then = { λ v x w. Took B.all v (B.numbers x) w };
+    ghost then = { λ v x w. Took v (B.numbers x) 1 w };
 }
 
 /// The board is given back, or for the first time.
 pub(crate) struct GivesBoard;
 
 impl<B: TaskHolder> Outcome<B, WorkerView> for GivesBoard {
-    ghost then = { λ v x w. Gave v (B.numbers x) w };
+    ghost then = { λ v x w. Gave v (B.numbers x) 0 w };
 }
 
 /// Who has the board knows that it is not in its place.
@@ -76,18 +73,18 @@ impl<B: TaskHolder> Lesson<B, WorkerView> for GivesBoard {
     ghost fact = { λ v items. v.boards ≡ 1 → length items ≡ 0 };
 }
 
-/// Who has every part and the board knows that no other has a task.
+/// Who has every part and the board knows that no other has one.
 pub(crate) struct KnowsAll;
 
 impl<B: TaskHolder> Lesson<B, WorkerView> for KnowsAll {
-    ghost use Rattle.std.specs.Prelude.{◌≡◌, ◌+◌, ℕ};
-    ghost use Rattle.sg_board.specs.Weighing.{weigh, all_parts};
+    ghost use Rattle.std.specs.Prelude.{◌≡◌};
+    ghost use Rattle.sg_board.specs.Weighing.{IsBalanced};
 
-    ghost fact = { λ v items. v.parts ≡ all_parts → v.boards ≡ 1 → (h : ℕ → ℕ) → weigh h v.held + weigh h v.out ≡ weigh h B.all };
+    ghost fact = { λ v items. v.boards ≡ 1 → IsBalanced v };
 }
 
 /// The lock, in whose one place the board lies while no worker has it.
-pub(crate) type Lock<B> = RuledArrayQueue<B, WorkerView, TaskRule, Global>;
+pub(crate) type Lock<B> = RuledArrayQueue<B, WorkerView, BoardRule, Global>;
 
 /// Waits for the board, and takes it.
 pub(crate) fn take<B: TaskHolder, R: Wait>(
@@ -95,9 +92,9 @@ pub(crate) fn take<B: TaskHolder, R: Wait>(
     lock: &Lock<B>,
     pass: &mut Pass<B, WorkerView>,
 ) -> B
-    requires pass { IsPassOf lock.now pass.old × (0 < (view pass.old).parts) × ((view pass.old).boards ≡ 0) × ((view pass.old).out ≡ []) }
+    requires pass { IsPassOf lock.now pass.old × (0 < (view pass.old).parts) }
     ensures pass { IsPassOf lock.now pass.new }
-    ensures took { Took B.all (view pass.old) (B.numbers result) (view pass.new) }
+    ensures took { Took (view pass.old) (B.numbers result) 1 (view pass.new) }
 {
     let mut looks = 0u32;
     for _ in rt.forever() {
@@ -120,7 +117,7 @@ fn pause(looks: u32) {
     }
 }
 
-/// Gives the board back. A task that left it is at the worker from now on, and one that came to it no more.
+/// Gives the board back, with the tasks that lie on it now.
 pub(crate) fn give<B: TaskHolder, R: Wait>(
     rt: &R,
     lock: &Lock<B>,
@@ -128,9 +125,8 @@ pub(crate) fn give<B: TaskHolder, R: Wait>(
     board: B,
 )
     requires pass { IsPassOf lock.now pass.old × ((view pass.old).boards ≡ 1) }
-    requires whole { (left : List ℕ) × ((h : ℕ → ℕ) → weigh h left + weigh h (B.numbers board) ≡ weigh h (view pass.old).held + weigh h (view pass.old).out) }
     ensures pass { IsPassOf lock.now pass.new }
-    ensures gave { Gave (view pass.old) (B.numbers board) (view pass.new) }
+    ensures gave { Gave (view pass.old) (B.numbers board) 0 (view pass.new) }
 {
     let given = lock.push_as::<GivesBoard, R>(rt, pass, board);
     let Ok(()) = given else { unreachable!() };

@@ -1,114 +1,87 @@
-ghost use Rattle.std.specs.Prelude.{◌≡◌, false, None, Some, MatchOption};
-ghost use Rattle.sg_board.specs.declared.place.Place.TheVariants.{Away, Ready};
+ghost use Rattle.std.specs.Prelude.{◌≡◌, true, false, None, Some, MatchOption};
 ghost use Rattle.sg_board.specs.Places.{task_at, HasTask};
 
 use crate::progress::Progress;
 use std::mem;
 
-/// Where a task is: at a worker, and whether it was woken there; or on the board, ready, waiting or with no step left.
+/// Where a task is: with the workers, and whether it was woken there; or on the board, waiting or with no step left.
 #[derive(Drop)]
 pub(crate) enum Place<T> {
     Away { woken: bool },
-    Ready(T),
     Waiting(T),
     Ended(T),
 }
 
 impl<T: Drop> Place<T> {
-    /// Takes the task, if it is ready.
-    pub(crate) fn take_ready(&mut self) -> Option<T>
-        ensures { MatchOption result (self.new ≡ self.old) (λ t. (self.old ≡ Ready t) × (self.new ≡ Away false)) }
+    /// Whether the task lies here.
+    pub(crate) fn has_task(&self) -> bool
+        ensures there { result ≡ true → HasTask self.now }
+        ensures away { result ≡ false → task_at self.now ≡ None }
     {
-        match mem::replace(self, Place::Away { woken: false }) {
-            Place::Ready(task) => Some(task),
-            other => {
-                *self = other;
-                None
-            }
+        match self {
+            Place::Away { .. } => false,
+            Place::Waiting(_) => true,
+            Place::Ended(_) => true,
         }
     }
 
-    /// Whether the task was woken while it was at a worker.
+    /// Whether the task was woken while it was with the workers.
     fn was_woken(&self) -> bool {
         match self {
             Place::Away { woken } => *woken,
-            Place::Ready(_) => false,
             Place::Waiting(_) => false,
             Place::Ended(_) => false,
         }
     }
 
-    /// Puts the task back after a step that told this. Whether it is ready: it goes on, or was woken before it could wait.
-    pub(crate) fn put(&mut self, task: T, told: Progress) -> bool
-        requires away { task_at self.old ≡ None }
-        ensures { task_at self.new ≡ Some task }
+    /// Lays the task down after a step that told this. It comes back where it is ready: it goes on, or was woken before it
+    /// could wait. One comes back too where another lies here, which no run meets.
+    pub(crate) fn put(&mut self, task: T, told: Progress) -> Option<T>
+        ensures { MatchOption result ((task_at self.old ≡ None) × (task_at self.new ≡ Some task)) (λ t. (t ≡ task) × (task_at self.new ≡ task_at self.old)) }
     {
+        if self.has_task() {
+            return Some(task);
+        }
         let woken = self.was_woken();
         match told {
             Progress::Goes => {
-                *self = Place::Ready(task);
-                true
+                *self = Place::Away { woken: false };
+                Some(task)
             }
             Progress::Waits if woken => {
-                *self = Place::Ready(task);
-                true
+                *self = Place::Away { woken: false };
+                Some(task)
             }
             Progress::Waits => {
                 *self = Place::Waiting(task);
-                false
+                None
             }
             Progress::Ended => {
                 *self = Place::Ended(task);
-                false
+                None
             }
             Progress::StopsAll => {
                 *self = Place::Waiting(task);
-                false
+                None
             }
         }
     }
 
-    /// Lets the task go on, or notes it where the task is at a worker. Whether it waited, and is ready now.
-    pub(crate) fn wake(&mut self) -> bool
-        ensures { task_at self.new ≡ task_at self.old }
-    {
-        match mem::replace(self, Place::Away { woken: true }) {
-            Place::Away { .. } => false,
-            Place::Waiting(task) => {
-                *self = Place::Ready(task);
-                true
-            }
-            Place::Ready(task) => {
-                *self = Place::Ready(task);
-                false
-            }
-            Place::Ended(task) => {
-                *self = Place::Ended(task);
-                false
-            }
-        }
-    }
-
-    /// Makes a task ready that waits. Whether the task is ready.
-    pub(crate) fn make_ready(&mut self) -> bool
-        ensures { task_at self.new ≡ task_at self.old }
+    /// Takes the task, if it waits. Where it is with the workers, it is noted as woken or not.
+    pub(crate) fn take_waiting(&mut self, notes: bool) -> Option<T>
+        ensures { MatchOption result (task_at self.new ≡ task_at self.old) (λ t. (task_at self.old ≡ Some t) × (task_at self.new ≡ None)) }
     {
         match mem::replace(self, Place::Away { woken: false }) {
             Place::Away { woken } => {
-                *self = Place::Away { woken };
-                false
+                *self = Place::Away {
+                    woken: woken || notes,
+                };
+                None
             }
-            Place::Waiting(task) => {
-                *self = Place::Ready(task);
-                true
-            }
-            Place::Ready(task) => {
-                *self = Place::Ready(task);
-                true
-            }
+            Place::Waiting(task) => Some(task),
             Place::Ended(task) => {
                 *self = Place::Ended(task);
-                false
+                None
             }
         }
     }
@@ -120,7 +93,6 @@ impl<T: Drop> Place<T> {
     {
         match self {
             Place::Away { .. } => unreachable!(),
-            Place::Ready(task) => task,
             Place::Waiting(task) => task,
             Place::Ended(task) => task,
         }

@@ -1,7 +1,6 @@
 ghost use Rattle.std.specs.Prelude.{◌≡◌, ◌+◌, ℕ, [], ◌∷◌, All, map, length, vec_capacity, ◌≤◌, MatchOption};
-ghost use Rattle.sg_board.specs.declared.place.Place.TheVariants.{Ready};
 ghost use Rattle.sg_board.specs.Places.{HasTask, ArePlaced, numbers_at, task_at, counting};
-ghost use Rattle.sg_board.specs.Weighing.{weigh, times};
+ghost use Rattle.sg_board.specs.Weighing.{weigh, weigh_option};
 
 use crate::place::Place;
 use crate::progress::Progress;
@@ -17,17 +16,17 @@ pub(crate) struct Places<T: Task> {
 }
 
 impl<T: Task> Places<T> {
-    ghost use Rattle.std.specs.Prelude.{◌≡◌, ◌+◌, ℕ, All, IfOk, MatchOption, map};
+    ghost use Rattle.std.specs.Prelude.{◌≡◌, ◌+◌, ℕ, [], All, IfOk, MatchOption, map};
     ghost use Rattle.sg_board.specs.Places.{HasTask, numbers_at, counting};
-    ghost use Rattle.sg_board.specs.Weighing.{weigh, times};
+    ghost use Rattle.sg_board.specs.Weighing.{weigh, weigh_option};
 
-    /// A place for each task, where it lies ready.
-    pub(crate) fn new(alloc: Global, tasks: Vec<T>) -> Result<Places<T>, AllocError>
-        requires { map T.number tasks.items ≡ counting 0 T.total }
-        ensures { IfOk result (λ r. numbers_at T.number r.places.items ≡ counting 0 T.total) }
+    /// A place for each task, with none of them there.
+    pub(crate) fn new(alloc: Global, count: usize) -> Result<Places<T>, AllocError>
+        requires { count ≡ T.total }
+        ensures { IfOk result (λ r. numbers_at T.number r.places.items ≡ []) }
     {
-        let room = Vec::with_capacity(alloc, tasks.len())?;
-        let places = lay_out(tasks, room);
+        let room = Vec::with_capacity(alloc, count)?;
+        let places = lay_out(count, room);
         Ok(Places { places })
     }
 
@@ -36,43 +35,22 @@ impl<T: Task> Places<T> {
         self.places.len()
     }
 
-    /// Takes the task of this number, if it is ready.
-    pub(crate) fn take_ready(&mut self, number: u32) -> Option<T>
-        ensures { (h : ℕ → ℕ) → MatchOption result (weigh h (numbers_at T.number self.new.places.items) ≡ weigh h (numbers_at T.number self.old.places.items)) (λ t. h (T.number t) + weigh h (numbers_at T.number self.new.places.items) ≡ weigh h (numbers_at T.number self.old.places.items)) }
+    /// Takes the task of this number, if it waits. Where it is with the workers, it is noted as woken or not.
+    pub(crate) fn take_waiting(&mut self, number: u32, notes: bool) -> Option<T>
+        ensures { (h : ℕ → ℕ) → weigh_option T.number h result + weigh h (numbers_at T.number self.new.places.items) ≡ weigh h (numbers_at T.number self.old.places.items) }
     {
         if number as usize >= self.places.len() {
             return None;
         }
-        self.places[number as usize].take_ready()
+        self.places[number as usize].take_waiting(notes)
     }
 
-    /// Puts a task back after a step that told this. Whether it is ready.
-    pub(crate) fn put(&mut self, task: T, told: Progress) -> bool
-        requires away { times (T.number task) (numbers_at T.number self.old.places.items) ≡ 0 }
-        ensures { (h : ℕ → ℕ) → weigh h (numbers_at T.number self.new.places.items) ≡ h (T.number task) + weigh h (numbers_at T.number self.old.places.items) }
+    /// Lays a task down after a step that told this. It comes back where it is ready.
+    pub(crate) fn put(&mut self, task: T, told: Progress) -> Option<T>
+        ensures { (h : ℕ → ℕ) → weigh_option T.number h result + weigh h (numbers_at T.number self.new.places.items) ≡ h (T.number task) + weigh h (numbers_at T.number self.old.places.items) }
     {
         let number = task.number();
         self.places[number as usize].put(task, told)
-    }
-
-    /// Lets the task of this number go on, if there is one. Whether it waited, and is ready now.
-    pub(crate) fn wake(&mut self, number: u32) -> bool
-        ensures { numbers_at T.number self.new.places.items ≡ numbers_at T.number self.old.places.items }
-    {
-        if number as usize >= self.places.len() {
-            return false;
-        }
-        self.places[number as usize].wake()
-    }
-
-    /// Makes the task of this number ready, if it waits. Whether it is ready.
-    pub(crate) fn make_ready(&mut self, number: u32) -> bool
-        ensures { numbers_at T.number self.new.places.items ≡ numbers_at T.number self.old.places.items }
-    {
-        if number as usize >= self.places.len() {
-            return false;
-        }
-        self.places[number as usize].make_ready()
     }
 
     /// All tasks in their order, once all are back.
@@ -85,17 +63,16 @@ impl<T: Task> Places<T> {
     }
 }
 
-/// The places of tasks that are ready.
-fn lay_out<T: Drop>(tasks: Vec<T>, room: Vec<Place<T>>) -> Vec<Place<T>>
-    requires room { (room.items ≡ []) × (length tasks.items ≤ vec_capacity room) }
-    ensures { result.items ≡ map (λ t. Ready t) tasks.items }
+/// So many places of tasks that are with the workers.
+fn lay_out<T: Drop>(count: usize, room: Vec<Place<T>>) -> Vec<Place<T>>
+    requires room { (room.items ≡ []) × (count ≤ vec_capacity room) }
+    ensures away { All (λ p. task_at p ≡ None) result.items }
+    ensures count { length result.items ≡ count }
 {
     let mut places = room;
-    let mut left = tasks;
-    while let Some(task) = left.pop() {
-        places.push_reserved(Place::Ready(task));
+    for _number in 0..count {
+        places.push_reserved(Place::Away { woken: false });
     }
-    places.reverse();
     places
 }
 

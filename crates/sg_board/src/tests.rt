@@ -130,6 +130,62 @@ fn workers_run_at_once(rt: HostRuntime) -> Result<(), Fail> {
     Ok(())
 }
 
+/// Where the guests of each half of the list are counted.
+#[derive(Drop)]
+struct Halves {
+    low: AtomicU64,
+    high: AtomicU64,
+    /// How many guests went on alone.
+    alone: AtomicU64,
+}
+
+/// Waits until somebody came. Whether that was in time.
+fn sees(count: &AtomicU64) -> bool {
+    for _turn in 0..PATIENCE {
+        if count.load(Ordering::SeqCst) > 0 {
+            return true;
+        }
+    }
+    false
+}
+
+/// Comes to one half, and waits for a guest of the other.
+fn enter(mine: &AtomicU64, others: &AtomicU64, alone: &AtomicU64) {
+    mine.fetch_add(1, Ordering::SeqCst);
+    if !sees(others) {
+        alone.fetch_add(1, Ordering::SeqCst);
+    }
+}
+
+/// The only step of a guest, which waits for one of the other half.
+fn face(halves: &Halves, guest: Guest) -> (Guest, Progress)
+    ensures { result.0.number ≡ guest.number }
+{
+    if guest.number < 2 {
+        enter(&halves.low, &halves.high, &halves.alone);
+    } else {
+        enter(&halves.high, &halves.low, &halves.alone);
+    }
+    (guest, Progress::Ended)
+}
+
+#[test]
+fn each_worker_starts_with_its_own_tasks(rt: HostRuntime) -> Result<(), Fail> {
+    let halves = Halves {
+        low: AtomicU64::new(0),
+        high: AtomicU64::new(0),
+        alone: AtomicU64::new(0),
+    };
+    let list = guests(rt.alloc())?;
+    let step = |guest: Guest| -> (Guest, Progress)
+        ensures { result.0.number ≡ guest.number }
+    { face(&halves, guest) };
+    let done = run(&rt, rt.alloc(), list, 2, &step)?;
+    assert_eq!(rt; done.len(), 4);
+    assert_eq!(rt; halves.alone.load(Ordering::SeqCst), 0);
+    Ok(())
+}
+
 /// One of two tasks, of which one goes on for ever.
 #[derive(Drop)]
 struct Runner {

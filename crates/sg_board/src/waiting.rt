@@ -1,9 +1,9 @@
-//! Workers that wait for news of the board. News only hurry them: a worker that is told of none looks when it wakes.
+//! Workers that wait for news of ready tasks. News only hurry them: a worker that is told of none looks when it wakes.
 
 use std::sync::Wait;
 use std::sync::atomic::{AtomicU64, Ordering};
 
-/// What workers tell one another beside the board.
+/// What workers tell one another beside the board and the deques.
 #[derive(Drop)]
 pub(crate) struct News {
     /// How many news there were.
@@ -22,9 +22,10 @@ impl News {
     }
 }
 
-/// Tells those that go on with a task that every task is to stop.
+/// Tells all that every task is to stop.
 pub(crate) fn tell_stop(news: &News) {
     news.stops.store(1, Ordering::SeqCst);
+    tell_all(news);
 }
 
 /// Whether every task is to stop.
@@ -42,12 +43,12 @@ pub(crate) fn wait_for_news<R: Wait>(rt: &R, news: &News, seen: u64) {
     news.told.park(rt, (seen & 0xffff_ffff) as u32);
 }
 
-/// Tells those that wait of so many tasks that became ready, and of which the teller takes one.
+/// Tells those that wait of so many tasks that the teller laid into its deque, and of which it takes one.
 ///
-/// No task is left on the board while others sleep and too few are awake to take it. A worker sleeps only after it found none
-/// ready. From then on the teller looks at the board next, whatever its own task told, and takes one task for itself, so that
-/// it has none to tell of where one became ready; of each further one, one more worker is told. Tasks that go on anew without
-/// a step are told of by `tell_all_if`.
+/// No task is left in a deque while others sleep and too few are awake to take it. A worker sleeps only after it found every
+/// deque empty, or others at the tasks. From then on the teller looks at its deque next, whatever its own task told, and takes
+/// one task for itself, so that it has none to tell of where one became ready; of each further one, one more worker is told.
+/// Tasks that go on anew without a step are told of by `tell_all`.
 pub(crate) fn tell_news(news: &News, ready: u64) {
     if ready <= 1 {
         return;
@@ -60,10 +61,8 @@ pub(crate) fn tell_news(news: &News, ready: u64) {
     }
 }
 
-/// Tells all that wait to look at the board, if there is something for them.
-pub(crate) fn tell_all_if(news: &News, is_for_all: bool) {
-    if is_for_all {
-        news.told.fetch_add(1, Ordering::SeqCst);
-        news.told.wake_all();
-    }
+/// Tells all that wait to look.
+pub(crate) fn tell_all(news: &News) {
+    news.told.fetch_add(1, Ordering::SeqCst);
+    news.told.wake_all();
 }

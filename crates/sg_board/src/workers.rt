@@ -1,33 +1,38 @@
 //! The workers.
-ghost use Rattle.std.specs.Prelude.{◌≡◌, ◌+◌, ◌-◌, ◌<◌, ◌≤◌, ℕ, List, [], IfOk, All, map, vec_len, vec_capacity};
+ghost use Rattle.std.specs.Prelude.{◌≡◌, ◌+◌, ◌<◌, ◌≤◌, ℕ, [], All, IfOk, map, vec_len, vec_capacity};
 ghost use Rattle.crossbeam_queue.specs.Passes.{view, IsPassOf};
 ghost use Rattle.sg_board.specs.declared.progress.Progress.{Progress as ProgressOf};
 ghost use Rattle.sg_board.specs.Places.{counting};
-ghost use Rattle.sg_board.specs.Weighing.{weigh, weigh_option, worker_view, IsFree, HoldsTasks, all_parts};
+ghost use Rattle.sg_board.specs.Shares.{ShareMoves, HandMoves, HandsMove};
+ghost use Rattle.sg_board.specs.Weighing.{weigh, weigh_option};
 
 use crate::board::Board;
-use crate::lock::{KnowsAll, Lock, OnePart, TaskHolder, give, take};
+use crate::closing::{Left, gather_up};
+use crate::dealing::{deal, hands, open};
+use crate::hand::Hand;
+use crate::lock::{KnowsAll, Lock, TaskHolder, give, take};
 use crate::progress::Progress;
+use crate::share::Share;
 use crate::task::Task;
-use crate::waiting::{
-    News, is_stopped, last_news, tell_all_if, tell_news, tell_stop, wait_for_news,
-};
-use crate::worker_view::WorkerView;
-use crossbeam_queue::Pass;
+use crate::waiting::{News, is_stopped, last_news, tell_all, tell_news, tell_stop, wait_for_news};
 use std::alloc::{AllocError, Global};
 use std::sync::Wait;
 use std::thread;
 use std::thread::Threads;
 
 /// Runs tasks in so many threads, each of which has one task at a time, until no step is left of any, or one told that all
-/// are to stop: then each worker ends before its next step. All tasks come back in their order. The tasks are listed by their numbers,
-/// which a step keeps.
+/// are to stop: then each worker ends before its next step. All tasks come back in their order. The tasks are listed by their
+/// numbers, which a step keeps.
 ///
-/// A worker keeps its task as long as that goes on and lets no other go on, and sleeps while no task is ready. A task that
-/// waits is ready again once a step names it as woken, also where that step came before the task was put back; and where no
-/// task is ready or at a worker, those that wait go on anew. Where a thread cannot be started, the caller's thread does its
-/// work. Takes memory for the workers and the tasks at the beginning, and is refused it there alone. Each step costs what the
-/// task's does, and where the task does not go on constant time under the lock, and more for each task that it wakes.
+/// Of `c` tasks, task `i` starts in the deque of worker `i * workers / c`, rounded down. A worker takes from its own deque,
+/// and where that is empty from the first of the others that has a task. It keeps its task as long as that goes on and lets no
+/// other go on, and sleeps while no task is ready. A task that waits is ready again once a step names it as woken, also where
+/// that step came before the task was put back, and then stands in the deque of the worker that made this step; and where no
+/// task is ready or at a worker, those that wait go on anew. Where a thread cannot be started, the others take its tasks.
+/// Takes memory for each two workers and for each worker and task at the beginning, and is refused it there alone: a task that
+/// a deque has no memory for stays at its worker. Each step costs what the task's does, and where the task does not go on
+/// constant time under the lock, and more for each task that it wakes. Where a worker has no ready task of its own, it looks at
+/// the deques of all a bounded number of times.
 pub fn run<T: Task + Send, F: Fn(T) -> (T, Progress) + Sync, R: Threads + Wait + Sync>(
     rt: &R,
     alloc: Global,
@@ -40,60 +45,56 @@ pub fn run<T: Task + Send, F: Fn(T) -> (T, Progress) + Sync, R: Threads + Wait +
     requires numbered { map T.number tasks.items ≡ counting 0 T.total }
     ensures { IfOk result (λ v. map T.number v.items ≡ counting 0 T.total) }
 {
-    let mut passes = Vec::with_capacity(alloc, workers as usize)?;
-    let room = Vec::with_capacity(alloc, tasks.len())?;
-    let board = Board::new(alloc, tasks)?;
+    if workers == 0 {
+        return Ok(tasks);
+    }
+    let count = tasks.len();
+    let room = Vec::with_capacity(alloc, count)?;
+    let owner_room = Vec::with_capacity(alloc, workers as usize)?;
+    let way_room = Vec::with_capacity(alloc, workers as usize)?;
+    let spare = Vec::with_capacity(alloc, workers as usize)?;
+    let board = Board::new(alloc, count)?;
+    let (owners, ways) = open(alloc, workers, count / workers as usize)?;
     let made = Lock::<Board<T>>::ruled(alloc, 1)?;
     let (lock, mut pass) = made;
+    let mut hands = hands(alloc, &lock, &mut pass, owners, ways, count)?;
+    deal(rt, &mut hands, tasks);
     give(rt, &lock, &mut pass, board);
-    give_parts(&lock, &mut pass, &mut passes, workers);
-    let news = News::new();
-    let passes = thread::map_vec(
-        rt,
-        passes,
-        &|p: Pass<Board<T>, WorkerView>| -> Pass<Board<T>, WorkerView>
-            requires { IsPassOf lock p × IsFree (view p) × ((view p).parts ≡ 1) × ((t : T) → F.pre step.now t) × ((t : T) (r : T × ProgressOf) → F.post step.now t r → T.number r.0 ≡ T.number t) }
-            ensures { IsPassOf lock result × IsFree (view result) × ((view result).parts ≡ 1) }
-        { work::<T, F, R>(rt, step, &lock, &news, p) },
-    )?;
-    gather_parts(&lock, &mut pass, passes);
-    let board = take(rt, &lock, &mut pass);
+    let hands = work_all::<T, F, R>(rt, step, &lock, hands)?;
+    let mut board = take(rt, &lock, &mut pass);
+    let left = Left {
+        owners: owner_room,
+        ways: way_room,
+        spare,
+    };
+    gather_up(rt, &lock, &mut pass, &mut board, hands, left);
     lock.learn_as::<KnowsAll>(&mut pass);
     Ok(board.into_tasks(room))
 }
 
-/// Passes for so many workers, each with one part.
-fn give_parts<B: TaskHolder>(
-    lock: &Lock<B>,
-    pass: &mut Pass<B, WorkerView>,
-    passes: &mut Vec<Pass<B, WorkerView>>,
-    workers: u32,
-)
-    requires pass { IsPassOf lock.now pass.old × ((view pass.old).parts ≡ all_parts) }
-    requires room { (passes.old.items ≡ []) × (workers ≤ vec_capacity passes.old) }
-    ensures pass { IsPassOf lock.now pass.new × (view pass.new ≡ worker_view (all_parts - workers) (view pass.old).held (view pass.old).out (view pass.old).boards) }
-    ensures passes { All (λ p. IsPassOf lock.now p × IsFree (view p) × ((view p).parts ≡ 1)) passes.new.items × (vec_len passes.new ≡ workers) }
+/// Lets each worker work until all is over, in a thread of its own where one can be started.
+fn work_all<T: Task + Send, F: Fn(T) -> (T, Progress) + Sync, R: Threads + Wait + Sync>(
+    rt: &R,
+    step: &F,
+    lock: &Lock<Board<T>>,
+    hands: Vec<Hand<T>>,
+) -> Result<Vec<Hand<T>>, AllocError>
+    requires steps { (t : T) → F.pre step.now t }
+    requires keeps { (t : T) (r : T × ProgressOf) → F.post step.now t r → T.number r.0 ≡ T.number t }
+    requires passes { All (λ x. IsPassOf lock.now x.pass) hands.items }
+    ensures passes { IfOk result (λ r. (vec_len r ≡ vec_len hands) × All (λ x. IsPassOf lock.now x.pass) r.items) }
+    ensures moves { IfOk result (λ r. HandsMove T.number hands.items r.items (λ h. 0) (λ h. 0)) }
 {
-    for _i in 0..workers {
-        let one = lock.another::<OnePart>(pass);
-        passes.push_reserved(one);
-    }
-}
-
-/// Takes the parts of all workers back.
-fn gather_parts<B: TaskHolder>(
-    lock: &Lock<B>,
-    pass: &mut Pass<B, WorkerView>,
-    passes: Vec<Pass<B, WorkerView>>,
-)
-    requires pass { IsPassOf lock.now pass.old × IsFree (view pass.old) }
-    requires passes { All (λ p. IsPassOf lock.now p × IsFree (view p) × ((view p).parts ≡ 1)) passes.items }
-    ensures { IsPassOf lock.now pass.new × IsFree (view pass.new) × ((view pass.new).parts ≡ (view pass.old).parts + vec_len passes) }
-{
-    let mut left = passes;
-    while let Some(other) = left.pop() {
-        lock.absorb::<OnePart>(pass, other);
-    }
+    let news = News::new();
+    let worked = thread::map_vec(
+        rt,
+        hands,
+        &|hand: Hand<T>| -> Hand<T>
+            requires { IsPassOf lock.now hand.pass × ((t : T) → F.pre step.now t) × ((t : T) (r : T × ProgressOf) → F.post step.now t r → T.number r.0 ≡ T.number t) }
+            ensures { IsPassOf lock.entry.now result.pass × HandMoves T.number hand result (λ h. 0) (λ h. 0) }
+        { work::<T, F, R>(rt, step, lock, &news, hand) },
+    )?;
+    Ok(worked)
 }
 
 /// Works until all is over.
@@ -102,17 +103,18 @@ fn work<T: Task, F: Fn(T) -> (T, Progress), R: Wait>(
     step: &F,
     lock: &Lock<Board<T>>,
     news: &News,
-    pass: Pass<Board<T>, WorkerView>,
-) -> Pass<Board<T>, WorkerView>
+    hand: Hand<T>,
+) -> Hand<T>
     requires steps { (t : T) → F.pre step.now t }
     requires keeps { (t : T) (r : T × ProgressOf) → F.post step.now t r → T.number r.0 ≡ T.number t }
-    requires pass { IsPassOf lock.now pass × IsFree (view pass) }
-    ensures { IsPassOf lock.now result × IsFree (view result) × ((view result).parts ≡ (view pass).parts) }
+    requires pass { IsPassOf lock.now hand.pass }
+    ensures pass { IsPassOf lock.now result.pass }
+    ensures moves { HandMoves T.number hand result (λ h. 0) (λ h. 0) }
 {
-    let mut pass = pass;
+    let mut hand = hand;
     for _ in rt.forever() {
-        if !work_once::<T, F, R>(rt, step, lock, news, &mut pass) {
-            return pass;
+        if !work_once::<T, F, R>(rt, step, lock, news, &mut hand) {
+            return hand;
         }
     }
     unreachable!()
@@ -124,28 +126,26 @@ fn work_once<T: Task, F: Fn(T) -> (T, Progress), R: Wait>(
     step: &F,
     lock: &Lock<Board<T>>,
     news: &News,
-    pass: &mut Pass<Board<T>, WorkerView>,
+    hand: &mut Hand<T>,
 ) -> bool
     requires steps { (t : T) → F.pre step.now t }
     requires keeps { (t : T) (r : T × ProgressOf) → F.post step.now t r → T.number r.0 ≡ T.number t }
-    requires pass { IsPassOf lock.now pass.old × IsFree (view pass.old) }
-    ensures { IsPassOf lock.now pass.new × IsFree (view pass.new) × ((view pass.new).parts ≡ (view pass.old).parts) }
+    requires pass { IsPassOf lock.now hand.old.pass }
+    ensures pass { IsPassOf lock.now hand.new.pass }
+    ensures moves { HandMoves T.number hand.old hand.new (λ h. 0) (λ h. 0) }
 {
     let seen = last_news(news);
-    let (picked, is_for_all) = take_task(rt, lock, pass);
-    tell_all_if(news, is_for_all);
-    let Some(task) = picked else {
-        if is_for_all {
-            return false;
-        }
-        wait_for_news(rt, news, seen);
-        return true;
+    if is_stopped(news) {
+        return false;
+    }
+    let Some(task) = hand.share.next() else {
+        return rest(rt, lock, news, hand, seen);
     };
     let (task, told) = run_on::<T, F, R>(rt, step, news, task);
     if told.stops_all() {
         tell_stop(news);
     }
-    let ready = put_back(rt, lock, pass, task, told);
+    let ready = put_back(rt, lock, hand, task, told);
     tell_news(news, ready);
     true
 }
@@ -172,22 +172,33 @@ fn run_on<T: Task, F: Fn(T) -> (T, Progress), R: Wait>(
     unreachable!()
 }
 
-/// A task, where there is one to take, and whether all workers are to look at the board: with a task, since others that waited
-/// go on anew, and with none, since all is over.
-fn take_task<T: Task, R: Wait>(
+/// What a worker does that found no ready task: it sleeps while others have tasks, lets those go on anew that wait where
+/// nobody has one, and ends where none waits either. False where it ends.
+fn rest<T: Task, R: Wait>(
     rt: &R,
     lock: &Lock<Board<T>>,
-    pass: &mut Pass<Board<T>, WorkerView>,
-) -> (Option<T>, bool)
-    requires { IsPassOf lock.now pass.old × IsFree (view pass.old) }
-    ensures pass { IsPassOf lock.now pass.new }
-    ensures holds { HoldsTasks (view pass.old) (view pass.new) (λ h. weigh_option T.number h result.0) }
+    news: &News,
+    hand: &mut Hand<T>,
+    seen: u64,
+) -> bool
+    requires pass { IsPassOf lock.now hand.old.pass }
+    ensures pass { IsPassOf lock.now hand.new.pass }
+    ensures moves { HandMoves T.number hand.old hand.new (λ h. 0) (λ h. 0) }
 {
-    let mut board = take(rt, lock, pass);
-    let picked = board.pick();
-    let is_for_all = board.is_for_all();
-    give(rt, lock, pass, board);
-    (picked, is_for_all)
+    let mut board = take(rt, lock, &mut hand.pass);
+    if board.has_away() {
+        give(rt, lock, &mut hand.pass, board);
+        wait_for_news(rt, news, seen);
+        return true;
+    }
+    let renewed = lay_waiting(rt, &mut board, &mut hand.share);
+    give(rt, lock, &mut hand.pass, board);
+    if renewed == 0 {
+        tell_stop(news);
+        return false;
+    }
+    tell_all(news);
+    true
 }
 
 /// Lets those tasks go on that the task woke, and puts the task back after a step that told this. How many more tasks are
@@ -195,18 +206,62 @@ fn take_task<T: Task, R: Wait>(
 fn put_back<T: Task, R: Wait>(
     rt: &R,
     lock: &Lock<Board<T>>,
-    pass: &mut Pass<Board<T>, WorkerView>,
+    hand: &mut Hand<T>,
     task: T,
     told: Progress,
 ) -> u64
-    requires pass { IsPassOf lock.now pass.old × (0 < (view pass.old).parts) × ((view pass.old).boards ≡ 0) × ((view pass.old).out ≡ []) }
-    requires held { (h : ℕ → ℕ) → weigh h (view pass.old).held ≡ h (T.number task) }
-    ensures pass { IsPassOf lock.now pass.new }
-    ensures free { HoldsTasks (view pass.old) (view pass.new) (λ h. 0) }
+    requires pass { IsPassOf lock.now hand.old.pass }
+    ensures pass { IsPassOf lock.now hand.new.pass }
+    ensures moves { HandMoves T.number hand.old hand.new (λ h. h (T.number task)) (λ h. 0) }
 {
-    let mut board = take(rt, lock, pass);
-    let woken = board.wake(task.woken());
-    let ready = board.put(task, told);
-    give(rt, lock, pass, board);
+    let mut board = take(rt, lock, &mut hand.pass);
+    let woken = lay_woken(rt, &mut board, &mut hand.share, task.woken());
+    let back = board.put(task, told);
+    give(rt, lock, &mut hand.pass, board);
+    let ready = lay_ready(rt, &mut hand.share, back);
     woken.saturating_add(ready)
+}
+
+/// Lets all tasks go on anew that wait. How many there are.
+fn lay_waiting<T: Task, R: Wait>(rt: &R, board: &mut Board<T>, share: &mut Share<T>) -> u64
+    ensures { ShareMoves T.number share.old share.new (λ h. weigh h (⟦<Board<T> as TaskHolder>⟧.numbers board.old)) (λ h. weigh h (⟦<Board<T> as TaskHolder>⟧.numbers board.new)) }
+{
+    let mut renewed: u64 = 0;
+    for number in 0..u32::MAX {
+        if number as usize >= board.len() {
+            return renewed;
+        }
+        let waiting = board.renew(number);
+        renewed = renewed.saturating_add(lay_ready(rt, share, waiting));
+    }
+    renewed
+}
+
+/// Lets these tasks go on: those that wait are laid into the worker's deque, and those that are with the workers will not wait
+/// after their next step. How many became ready.
+fn lay_woken<T: Task, R: Wait>(
+    rt: &R,
+    board: &mut Board<T>,
+    share: &mut Share<T>,
+    numbers: &[u32],
+) -> u64
+    ensures { ShareMoves T.number share.old share.new (λ h. weigh h (⟦<Board<T> as TaskHolder>⟧.numbers board.old)) (λ h. weigh h (⟦<Board<T> as TaskHolder>⟧.numbers board.new)) }
+{
+    let mut woken: u64 = 0;
+    for number in numbers {
+        let waiting = board.wake(*number);
+        woken = woken.saturating_add(lay_ready(rt, share, waiting));
+    }
+    woken
+}
+
+/// Lays a task into the worker's deque, where there is one. How many there are.
+fn lay_ready<T: Task, R: Wait>(rt: &R, share: &mut Share<T>, task: Option<T>) -> u64
+    ensures { ShareMoves T.number share.old share.new (λ h. weigh_option T.number h task) (λ h. 0) }
+{
+    let Some(task) = task else {
+        return 0;
+    };
+    share.lay(rt, task);
+    1
 }

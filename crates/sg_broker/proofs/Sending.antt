@@ -16,6 +16,10 @@ use Rattle.sg_engine.specs.contracts.nodes.Nodes as nodes
 use Rattle.sg_engine.specs.contracts.search.Search as engine
 use Rattle.sg_engine.specs.contracts.tree.Tree as tree
 use Rattle.sg_state.specs.contracts.held.Held as held
+use Rattle.sg_state.specs.contracts.place.Place as place
+use Rattle.sg_state.specs.contracts.row.Row as row
+use Rattle.sg_state.specs.contracts.rows.Rows as rows
+use Rattle.sg_state.specs.contracts.unit_set.UnitSet as unit_set
 use Rattle.sg_waits.specs.contracts.waits.Waits as waits
 use Rattle.sg_waits.specs.contracts.shown.Shown as shown
 use Rattle.sg_unit.specs.contracts.entry.Entry as entry
@@ -42,12 +46,24 @@ tree_send D d = search (nodes_send, sendable, heap.crosses) depth 60 fits 100000
 answer_send : (D : RattleType) → IsSend D → IsSync D → IsSend (answer.the_field D).row
 answer_send D d e = search (sendable, heap.crosses) depth 60 fits 100000
 
+unit_set_send : IsSend unit_set.the_row
+unit_set_send = search (sendable, heap.crosses) depth 60 fits 100000
+
+row_send : IsSend row.the_field.row
+row_send = search (unit_set_send, sendable, heap.crosses) depth 60 fits 100000
+
+rows_send : IsSend rows.the_field.row
+rows_send = search (row_send, sendable, heap.crosses) depth 60 fits 100000
+
+place_send : (D : RattleType) → IsSend D → IsSend (place.the_row D)
+place_send D d = search (rows_send, sendable, heap.crosses) depth 60 fits 100000
+
 shown_send : IsSend shown.the_row
 shown_send = search (sendable, heap.crosses, maps.crosses) depth 40
 
 module _ (I D P : RattleType) (g : instance.Ghosts I.Denot D.Denot P.Denot) (i : IsSend I) (d : IsSend D) (e : IsSync D) (p : IsSend P) where
   held_send : IsSend (held.the_row I D P g)
-  held_send = search (sendable, heap.crosses, maps.crosses, sets.crosses) depth 60 fits 100000
+  held_send = search (place_send, sendable, heap.crosses, maps.crosses, sets.crosses) depth 60 fits 100000
 
   search_send : IsSend (engine.the_row I D P g)
   search_send = search (tree_send, answer_send, sendable, heap.crosses) depth 60 fits 100000

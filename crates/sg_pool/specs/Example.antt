@@ -19,6 +19,7 @@ four = record {
   rest = [];
 }
 
+-- the setting that opens so, with no kind of query and these ways to compare data
 abbrev pub four_setting : {D P : Type 0} → (P → D → Bool) → (D → D → Bool) → Setting D P
 four_setting wants same = setting_of wants same four []
 

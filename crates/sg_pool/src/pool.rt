@@ -19,9 +19,10 @@ use std::thread::Threads;
 ///
 /// A worker has one unit in hand at a time, and keeps it as long as that goes on. A unit that waits is in nobody's hand until
 /// another unit's reply names it as woken. Where no unit is ready or in hand, those that wait go on anew: at a desk that
-/// tells them to wait for ever, this does not return. Where a thread cannot be started, the caller's thread does its work.
+/// tells them to wait for ever, this does not return. Where a thread cannot be started, the other workers take its units.
 /// The gate is told of each step of a unit before and after it, and of steps of several units at once. Each step costs what
-/// `step` costs; taking a unit up and laying it down takes constant time, and more for each unit that is woken.
+/// `step` costs. Laying a unit down takes constant time, and more for each unit that is woken; taking one up takes constant
+/// time, and more for each worker where the worker has no ready unit of its own.
 /// Each unit and its seat are moved to the heap at the beginning, and from there only at the end.
 pub fn run_pool<
     U: Unit + Send,

@@ -9,69 +9,14 @@ ghost use Rattle.sg_unit.specs.Run.{run_of};
 ghost use Rattle.sg_unit.specs.Unit.{setting_of, GoesOn, GivesOwed};
 
 use crate::{Running, run_pool};
-use sg_base::{Instance, LabelSet, Scope};
+use sg_base::{LabelSet, Scope};
+use sg_numbers::Numbers;
 use sg_unit::{Desk, Entry, Gate, NoGate, Op, Reply, Seat, Unit, Woken};
 use std::alloc::{AllocError, Global};
 use std::sync::Wait;
 use std::sync::atomic::{AtomicU64, Ordering};
 use std::test::Fail;
 use std::thread::Threads;
-
-/// Numbers as data, each its own key. A predicate wants one number.
-#[derive(Drop)]
-struct Numbers;
-
-impl Instance for Numbers {
-    ghost use Rattle.std.specs.Prelude.{◌==◌, Some};
-    ghost use Rattle.std.proofs.Common.{arith};
-    ghost use Rattle.std.proofs.lemmas.Bool.Decides.{nat_tests};
-
-    type Datum = u64;
-
-    type Pred = u64;
-
-    ghost wants = { λ p d. p == d };
-
-    ghost same_datum = { λ a b. a == b };
-
-    ghost pred_key = { λ p. Some p };
-
-    ghost datum_key = { λ d. d };
-
-    fn matches(p: &u64, d: &u64) -> bool {
-        *p == *d
-    }
-
-    fn same(a: &u64, b: &u64) -> bool {
-        *a == *b
-    }
-
-    fn key_of_pred(p: &u64) -> Option<u64> {
-        Some(*p)
-    }
-
-    fn key_of_datum(d: &u64) -> u64 {
-        *d
-    }
-
-    fn copy_datum(_alloc: Global, d: &u64) -> Result<u64, AllocError> {
-        Ok(*d)
-    }
-
-    fn copy_pred(_alloc: Global, p: &u64) -> Result<u64, AllocError> {
-        Ok(*p)
-    }
-
-    ghost sameness = { record {
-      reflexive = λ a. Prim.grind (arith, nat_tests);
-      symmetric = λ a b h. Prim.grind (arith, nat_tests);
-      transitive = λ a b c h k. Prim.grind (arith, nat_tests);
-    } };
-
-    ghost one_key = { λ a b h. Prim.grind (arith, nat_tests) };
-
-    ghost keyed = { λ p d k e t. Prim.grind (arith, nat_tests) };
-}
 
 /// One of four units: it makes two scopes, and ends with 7.
 #[derive(Drop)]
@@ -428,6 +373,61 @@ fn workers_run_at_once(rt: HostRuntime) -> Result<(), Fail> {
     assert_eq!(rt; whole(seats.as_slice()), Some(4));
     assert_eq!(rt; hall.alone.load(Ordering::SeqCst), 0);
     assert_eq!(rt; hall.answered.load(Ordering::SeqCst), 12);
+    Ok(())
+}
+
+/// A gate at which the first step of each half of the units waits for one of the other half.
+#[derive(Drop)]
+struct Halves {
+    low: AtomicU64,
+    high: AtomicU64,
+    /// How many units went on alone.
+    alone: AtomicU64,
+}
+
+/// Waits until somebody came. Whether that was in time.
+fn sees(count: &AtomicU64) -> bool {
+    for _turn in 0..PATIENCE {
+        if count.load(Ordering::SeqCst) > 0 {
+            return true;
+        }
+    }
+    false
+}
+
+/// Comes to one half, and waits for a unit of the other.
+fn enter(mine: &AtomicU64, others: &AtomicU64, alone: &AtomicU64) {
+    mine.fetch_add(1, Ordering::SeqCst);
+    if !sees(others) {
+        alone.fetch_add(1, Ordering::SeqCst);
+    }
+}
+
+impl Gate for Halves {
+    fn before(&self, unit: u32, step: u64) {
+        if step != 1 {
+            return;
+        }
+        if unit < 2 {
+            enter(&self.low, &self.high, &self.alone);
+        } else {
+            enter(&self.high, &self.low, &self.alone);
+        }
+    }
+
+    fn answered(&self, _unit: u32, _step: u64) {}
+}
+
+#[test]
+fn each_worker_starts_with_its_own_units(rt: HostRuntime) -> Result<(), Fail> {
+    let halves = Halves {
+        low: AtomicU64::new(0),
+        high: AtomicU64::new(0),
+        alone: AtomicU64::new(0),
+    };
+    let seats = pooled(&rt, rt.alloc(), &OwnDesk::new(u64::MAX), 2, &halves)?;
+    assert_eq!(rt; whole(seats.as_slice()), Some(4));
+    assert_eq!(rt; halves.alone.load(Ordering::SeqCst), 0);
     Ok(())
 }
 

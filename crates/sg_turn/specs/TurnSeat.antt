@@ -22,6 +22,7 @@ pub record Known (E R : Type 0) : Type 0 where
   pub spent : Bool
 
 module _ {E R : Type 0} where
+  -- what contracts see of a seat of this lock, by its view
   abbrev pub known : TableId → View E R → Known E R
   known z v = record { turn = z; number = v.number; root = v.root; seen = v.seen; mine = v.mine; kept = v.kept; inside = is_inside v.stage; spent = is_spent v.stage }
 
@@ -41,5 +42,6 @@ Sits {S = S} (Inside t) c = ◌≡◌ {A = List (ℕ × Option S)} c ((0, None) 
 Sits Spent c = c ≡ []
 Sits Joined c = ⊥
 
+-- a seat sits so, by the stage of its view and the slots that it has taken
 abbrev pub Rests : {S E R : Type 0} → Me (Option S) (View E R) → Type 0
 Rests m = Sits m.0.stage m.1

@@ -3,4 +3,4 @@ use Rattle.sg_board.proofs.Weights.{gives, no_room}
 use Rattle.sg_board.proofs.lock.give.Goals as goal
 
 pub push_as-given-requires-clause-rule : goal.push_as-given-requires-clause-rule
-push_as-given-requires-clause-rule g c = (gives g.B.TaskHolder.numbers g.B.TaskHolder.all _ _ (view c.args.pass.now) c.args.board c.requires.whole.0 c.requires.pass.1 c.requires.whole.1, no_room g.B.TaskHolder.numbers g.B.TaskHolder.all _ (view c.args.pass.now))
+push_as-given-requires-clause-rule g c = (gives g.B.TaskHolder.numbers _ _ (view c.args.pass.now) c.args.board c.requires.pass.1, no_room g.B.TaskHolder.numbers _ (view c.args.pass.now))

@@ -1,13 +1,11 @@
-use Rattle.std.proofs.Common.{◌≡◌, ◌+◌, ◌≤◌, ◌++◌, length, map, reverse, vec_len}
+use Rattle.std.proofs.Common.{◌≡◌, ◌≤◌, All, None, length}
 use Rattle.std.specs.Prelude.{vec_capacity}
-use Rattle.sg_board.specs.declared.place.Place.TheVariants.{Ready}
+use Rattle.sg_board.specs.Places.{task_at}
 use Rattle.sg_board.proofs.places.lay_out.Given as goal
 
-abbrev pub invariant-loop-task : goal.invariant-loop-task
-invariant-loop-task g l = record {
-  laid : map (λ t. Ready t) l.left.items ++ reverse l.places.items ≡ map (λ t. Ready t) l.fn.tasks.items;
-  room : length l.left.items + length l.places.items ≤ vec_capacity l.places;
+abbrev pub invariant-loop-number : goal.invariant-loop-number
+invariant-loop-number g l = record {
+  away : All (λ p. task_at p ≡ None) l.places.items;
+  count : length l.places.items ≡ l._number;
+  room : l.count ≤ vec_capacity l.places;
 }
-
-abbrev pub decreases-loop-task : goal.decreases-loop-task
-decreases-loop-task g l = vec_len l.left

@@ -1,14 +1,11 @@
-use Rattle.std.proofs.Common.{ap, ◌∙◌, []}
+use Rattle.std.proofs.Common.{◌∙◌, arith}
 use Rattle.crossbeam_queue.specs.Passes.{view}
-use Rattle.sg_board.specs.Weighing.{times}
-use Rattle.sg_board.proofs.Moves.{is_away, put_whole, put_free}
+use Rattle.sg_board.proofs.Moves.{took_weight, gave_weight}
 use Rattle.sg_board.proofs.workers.put_back.Goals as goal
 
-pub put-ready-requires : goal.put-ready-requires
-put-ready-requires g c = record { away = ap (times (g.T.Task.number c.args.task)) c.wake-woken.ensures ∙ is_away (g.T.Task.number c.args.task) g.T.Task.total (view c.args.pass.now) (view c.take-board.new.pass) _ c.requires.held c.take-board.ensures.took }
-
-pub give-requires-clause-whole : goal.give-requires-clause-whole
-give-requires-clause-whole g c = ([], put_whole (g.T.Task.number c.args.task) _ (view c.args.pass.now) (view c.take-board.new.pass) _ _ _ c.requires.held c.take-board.ensures.took c.wake-woken.ensures c.put-ready.ensures)
-
-pub returns-clause-free : goal.returns-clause-free
-returns-clause-free g c = put_free (g.T.Task.number c.args.task) _ (view c.args.pass.now) (view c.take-board.new.pass) (view c.give.new.pass) _ _ _ c.requires.held c.take-board.ensures.took c.wake-woken.ensures c.put-ready.ensures c.give.ensures.gave
+pub returns-clause-moves : goal.returns-clause-moves
+returns-clause-moves g c = let w = c.lay_woken-woken.ensures in let r = c.lay_ready-ready.ensures in record {
+  same = r.same ∙ w.same;
+  flow = λ h. let t = took_weight (view c.args.hand.now.pass) (view c.take-board.new.pass) _ 1 c.take-board.ensures.took h in let b = gave_weight (view c.take-board.new.pass) (view c.give.new.pass) _ 0 c.give.ensures.gave h in
+      let x = w.flow h in let y = c.put-back.ensures h in let z = r.flow h in omega (arith, t.0, t.1, b.0, b.1, x, y, z);
+}
