@@ -25,16 +25,19 @@ pub record IsSiteIn (count : ℕ) (site : SiteOf) : Type 0 where
 abbrev pub IsAnything : {U : Type 0} → U → Type 0
 IsAnything v = Unit {0}
 
+-- whatever the answers, the rule of the initializer of a field asks queries of the layout alone
 abbrev pub FieldsAskIn : Type 0
 FieldsAskIn =
     (l : LayoutOf) (count : ℕ) (names : List (List ℕ)) (c : Scope) (extends : List (List Ident)) (m : Scope) (x : Option InitTree) → IsLinked l → IsTypeScope l c
     → AreNumberedNames count extends → IsListed l m → IsNumberedOption count x → AsksIn l count IsAnything (field_rule l names c extends m x)
 
+-- whatever the answers, the rule of the body of a method asks queries of the layout alone
 abbrev pub MethodsAskIn : Type 0
 MethodsAskIn =
     (l : LayoutOf) (count : ℕ) (names : List (List ℕ)) (c : Scope) (extends : List (List Ident)) (m : Scope) (d : MethodTree) → IsLinked l → IsTypeScope l c
     → AreNumberedNames count extends → IsListed l m → IsNumberedMethod count d → AsksIn l count IsAnything (method_rule l names c extends m d)
 
+-- whatever the answers, the rule of a constructor asks queries of the layout alone
 abbrev pub ConstructorsAskIn : Type 0
 ConstructorsAskIn =
     (l : LayoutOf) (count : ℕ) (names : List (List ℕ)) (c : Scope) (extends : List (List Ident)) (blanks : List Scope) (m : Scope) (d : CtorTree) → IsLinked l → IsTypeScope l c

@@ -50,6 +50,7 @@ abbrev pub applied_by : SiteOf → ℕ → List ℕ → List Argument → Option
 applied_by site at text as' None ds = done (Some bad_type, ds)
 applied_by site at text as' (Some s) ds = applied_to site at text as' s ds
 
+-- what has this signature, or none, is called with arguments, by a text at an offset
 unfoldable pub applied : SiteOf → ℕ → List ℕ → List Argument → Option SignatureOf → List DiagOf → Checking (Option Ty)
 applied site at text as' s ds = applied_by site at text as' s ds
 
@@ -79,6 +80,7 @@ abbrev pub first_concrete : LayoutOf → List Scope → Option Scope
 first_concrete l [] = None
 first_concrete l (m ∷ ms) = cond (is_abstract_of l m) (first_concrete l ms) (Some m)
 
+-- the one that is not abstract, where one was found; else the least whose result fits those of all, and else the least
 abbrev pub chosen_abstract : LayoutOf → Scope → List Scope → Option Scope → Rule Scope
 chosen_abstract l m ms (Some k) = done k
 chosen_abstract l m ms None = and_then (each (result_type l) (m ∷ ms)) (λ ts. first_fitting l ts m (m ∷ ms) ts)
@@ -88,6 +90,7 @@ abbrev pub chosen_of : LayoutOf → Scope → List Scope → Rule Scope
 chosen_of l m [] = done m
 chosen_of l m (k ∷ ks) = chosen_abstract l m (k ∷ ks) (first_concrete l (m ∷ k ∷ ks))
 
+-- which one is called of a method and the further ones behind it
 unfoldable pub chosen : LayoutOf → Scope → List Scope → Rule Scope
 chosen l m ms = chosen_of l m ms
 
@@ -108,6 +111,7 @@ abbrev pub with_call : SiteOf → Manner → Ident → Scope → Bool → List D
 with_call site how i m ok ds =
     with_named_if (is_missing site how m) site i 49 (with_named_if (lacks_instance site how.free m) site i 48 (with_named_if (not ok) site i 44 ds))
 
+-- something is wrong with it: it is not accessible, lacks an instance, or is abstract and called through `super`
 abbrev pub is_faulty_call : SiteOf → Manner → Scope → Bool → Bool
 is_faulty_call site how m ok = not ok || (lacks_instance site how.free m || is_missing site how m)
 
@@ -131,6 +135,7 @@ abbrev pub called_of : SiteOf → Manner → Ident → List Argument → List Sc
 called_of site how i as' [] ds = bad_call site i 42 ds
 called_of site how i as' (m ∷ ms) ds = and_then (chosen site.layout m ms) (λ k. method_called site how i as' k ds)
 
+-- of the methods of a name that were found; that there are too many paths is said
 abbrev pub called_among : SiteOf → Manner → Ident → List Argument → Ends → List DiagOf → Checking Ty
 called_among site how i as' TooMany ds = bad_call site i 41 ds
 called_among site how i as' (Scopes ms) ds = called_of site how i as' ms ds
@@ -153,6 +158,7 @@ class_call site how c i as' ds = and_then (class_methods site.layout c i.id) (λ
 abbrev pub through : Scope → Manner
 through c = record { through = Some c; free = true; concrete = false }
 
+-- a method is called on a value of this base: of a class or an interface; others have none, and of a bad one nothing is said
 abbrev pub base_call : SiteOf → TypeBase → Ident → List Argument → List DiagOf → Checking Ty
 base_call site (Class c) i as' ds = class_call site (through c) c i as' ds
 base_call site Boolean i as' ds = bad_call site i 42 ds
@@ -173,6 +179,7 @@ abbrev pub front_call_of : SiteOf → Front → Ident → List Argument → List
 front_call_of site (ValueFront v) i as' ds = value_call site v.ty i as' ds
 front_call_of site (TypeFront t) i as' ds = class_call site (record { through = Some t; free = false; concrete = false }) t i as' ds
 
+-- a method is called on what stands in front of the dot
 unfoldable pub front_call : SiteOf → Front → Ident → List Argument → List DiagOf → Checking Ty
 front_call site f i as' ds = front_call_of site f i as' ds
 
@@ -188,6 +195,7 @@ abbrev pub bare_in : SiteOf → List Scope → Ident → List Argument → List 
 bare_in site [] i as' ds = bad_call site i 42 ds
 bare_in site (b ∷ bs) i as' ds = and_then (methods site.layout b i.id) (bare_among site b i as' ds (bare_in site bs i as' ds))
 
+-- a method is called by its name alone, in the bodies around the place
 unfoldable pub bare_call : SiteOf → Ident → List Argument → List DiagOf → Checking Ty
 bare_call site i as' ds = bare_in site site.bodies i as' ds
 
@@ -224,6 +232,7 @@ super_field site at i ds =
 
 -- ---- constructors (JLS 15.9)
 
+-- the text of a name; where there is no name, an empty one
 abbrev pub text_or_none : SiteOf → Option NameId → List ℕ
 text_or_none site None = []
 text_or_none site (Some n) = text_of site.names n.0
@@ -239,6 +248,7 @@ ctor_called site through c at as' (Some k) ds =
     and_then (member_accessible site.layout site.file site.bodies k through) (λ ok. and_then (signature_of site.layout k) (λ s.
     and_then (applied site at (class_text site c) as' s (with_fault_if (not ok) site at 44 (class_text site c ∷ []) ds)) (λ r. done (ok && is_some r.0, r.1))))
 
+-- the constructor of a class is looked up, and called at an offset: whether nothing was wrong
 unfoldable pub ctor_call : SiteOf → Option Scope → Scope → ℕ → List Argument → List DiagOf → Checking Bool
 ctor_call site through c at as' ds = and_then (ctor_of site.layout c) (λ k. ctor_called site through c at as' k ds)
 
@@ -250,6 +260,7 @@ with_enclosing ok site at c ds = with_fault_if (not ok) site at 57 (title site c
 abbrev pub is_abstract_class : SiteOf → Scope → Bool
 is_abstract_class site c = is_interface_of site.layout c || is_abstract_of site.layout c
 
+-- the type of a class
 abbrev pub class_type : Scope → Ty
 class_type c = plain (Class c)
 

@@ -44,6 +44,7 @@ is_interface_base l Null = false
 is_interface_base l Void = false
 is_interface_base l Bad = false
 
+-- the class of a base is final
 abbrev pub is_final_base : LayoutOf → TypeBase → Bool
 is_final_base l (Class c) = is_final_of l c
 is_final_base l Boolean = false
@@ -58,6 +59,7 @@ is_final_base l Bad = false
 abbrev pub side : LayoutOf → List Scope → Ty → SideOf
 side l up t = record { ty = t; up = up; interface = is_interface_base l t.base; is_final = is_final_base l t.base }
 
+-- two types, each as one side of the comparison
 abbrev pub Sides : Type 0
 Sides = SideOf × SideOf
 

@@ -60,6 +60,7 @@ field_found site through free own i m ds =
 abbrev pub bad_named : SiteOf → Ident → ℕ → List DiagOf → Checking Value
 bad_named site i code ds = done (bad_value, with_named site i code ds)
 
+-- a field by what its name means; where that is not one field, a bad value with a diagnostic
 abbrev pub field_meant : SiteOf → Option Scope → Bool → Bool → Ident → Meaning → List DiagOf → Checking Value
 field_meant site through free own i (One m) ds = field_found site through free own i m ds
 field_meant site through free own i Nothing ds = bad_named site i 40 ds
@@ -75,6 +76,7 @@ abbrev pub array_field : SiteOf → Ident → List DiagOf → Checking Value
 array_field site i ds =
     cond (bytes_eq (text_of site.names i.id.0) (codes "length")) (done (record { ty = plain Int; sealed = Some i.id }, ds)) (bad_named site i 40 ds)
 
+-- a field behind a value of this base: of a class or an interface; others have none, and of a bad one nothing is said
 abbrev pub base_field : SiteOf → Bool → TypeBase → Ident → List DiagOf → Checking Value
 base_field site own (Class c) i ds = class_field site (Some c) own c i ds
 base_field site own Boolean i ds = bad_named site i 40 ds

@@ -13,13 +13,16 @@ abbrev pub FieldReadsOnlyItsQueries : Type 0
 FieldReadsOnlyItsQueries =
     (l : LayoutOf) (names : List (List ℕ)) (c : Scope) (extends : List (List Ident)) (m : Scope) (x : Option InitTree) → ReadsOnlyItsQueries (field_rule l names c extends m x)
 
+-- the rule of the body of a method looks at a graph by its own queries alone
 abbrev pub MethodReadsOnlyItsQueries : Type 0
 MethodReadsOnlyItsQueries =
     (l : LayoutOf) (names : List (List ℕ)) (c : Scope) (extends : List (List Ident)) (m : Scope) (d : MethodTree) → ReadsOnlyItsQueries (method_rule l names c extends m d)
 
+-- the rule of a constructor looks at a graph by its own queries alone
 abbrev pub ConstructorReadsOnlyItsQueries : Type 0
 ConstructorReadsOnlyItsQueries =
     (l : LayoutOf) (names : List (List ℕ)) (c : Scope) (extends : List (List Ident)) (blanks : List Scope) (m : Scope) (d : CtorTree) → ReadsOnlyItsQueries (ctor_rule l names c extends blanks m d)
 
+-- the rules of fields, methods and constructors look at a graph by their own queries alone
 abbrev pub BodiesReadOnlyTheirQueries : Type 0
 BodiesReadOnlyTheirQueries = FieldReadsOnlyItsQueries × MethodReadsOnlyItsQueries × ConstructorReadsOnlyItsQueries

@@ -23,6 +23,7 @@ use Rattle.jv_expr.specs.Site.{SiteOf, with_fault, with_fault_if, type_text}
 abbrev pub value : Ty → Value
 value t = record { ty = t; sealed = None }
 
+-- a value of a bad type
 abbrev pub bad_value : Value
 bad_value = value bad_type
 
@@ -58,6 +59,7 @@ with_condition site at t ds = with_misfit (is_bad t || is_type t boolean_type) s
 abbrev pub is_index : Ty → Bool
 is_index t = is_numeric t && is_type (promoted t t) (plain Int)
 
+-- a size of an array is such a number
 abbrev pub with_size : SiteOf → ℕ → Ty → List DiagOf → List DiagOf
 with_size site at t ds = with_misfit (is_bad t || is_index t) site at t (plain Int) ds
 
@@ -108,6 +110,7 @@ unary_on site at op place variable v ds = cond (is_step op) (stepped site at op 
 abbrev pub compares : ℕ → Bool
 compares op = is_equality op || (op == 153)
 
+-- the operands of an operator: with their supertypes where it compares classes, and else without
 unfoldable pub operand_sides : SiteOf → ℕ → Ty → Ty → Rule Sides
 operand_sides site op s t = cond (compares op) (sides site.layout s t) (done (bare_sides site.layout s t))
 
@@ -127,6 +130,7 @@ may_cast site p = (is_bad p.0.ty || is_bad p.1.ty) || are_castable (object_scope
 abbrev pub may_be_instance : SiteOf → ℕ → Sides → Bool
 may_be_instance site op p = not (op == 153) || may_cast site p
 
+-- the type of an operator with these operands, at an offset; a bad one where something was wrong
 abbrev pub operated : SiteOf → ℕ → ℕ → Sides → List DiagOf → Ty × List DiagOf
 operated site at op p ds = (
   unless_faulty (not (may_be_instance site op p)) (or_refused (operator_type site op p) site at op (both_texts site p.0.ty p.1.ty) ds).0,
@@ -164,6 +168,7 @@ choice_type site c p =
     cond (is_bad p.0.ty || is_bad p.1.ty) (Some bad_type)
     (cond (is_bad c) (bad_for (conditional_type p.0 p.1 (object_scope site.layout))) (cond (is_type c boolean_type) (conditional_type p.0 p.1 (object_scope site.layout)) None))
 
+-- a conditional at an offset, by the types of its condition and of its branches
 unfoldable pub choice_on : SiteOf → ℕ → Ty → Ty → Ty → List DiagOf → Checking Ty
 choice_on site at c s t ds = and_then (sides site.layout s t) (λ p. done (or_refused (choice_type site c p) site at 17 (choice_text site c s t) ds))
 
@@ -173,6 +178,7 @@ choice_on site at c s t ds = and_then (sides site.layout s t) (λ p. done (or_re
 abbrev pub is_indexed : Ty → Ty → Bool
 is_indexed s t = nat_lt 0 s.dims && is_index t
 
+-- the type of an element of an array at an index: bad where one of the two types is, and none where they are not such types
 abbrev pub element_type : Ty → Ty → Option Ty
 element_type s t = cond (is_bad s || is_bad t) (Some bad_type) (cond (is_indexed s t) (Some (element 1 s)) None)
 

@@ -53,6 +53,7 @@ begun_scope (Err e) = Err e
 abbrev pub method_statements_left : LayoutOf → List (List ℕ) → Scope → List (List Ident) → Scope → StmtTrees → BegunBody → Rule (List DiagOf)
 method_statements_left l names c extends m xs b = statements_left (member_site l names c extends (member_instances l c m) [] b.result) xs b
 
+-- what is left of a method with this body, or without one
 abbrev pub optional_left : LayoutOf → List (List ℕ) → Scope → List (List Ident) → Scope → MethodTree → Option StmtTrees → BodyProgress → Rule (List DiagOf)
 optional_left l names c extends m d None p = optional_body l names c extends m d None
 optional_left l names c extends m d (Some xs) p = left_of (optional_body l names c extends m d (Some xs)) (method_statements_left l names c extends m xs) p.begun

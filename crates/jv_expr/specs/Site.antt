@@ -46,6 +46,7 @@ with_fault_if b site at code args ds = cond b (with_fault site at code args ds) 
 abbrev pub with_named : SiteOf → Ident → ℕ → List DiagOf → List DiagOf
 with_named site i code ds = with_fault site i.at code (text_of site.names i.id.0 ∷ []) ds
 
+-- with one more of a code at an identifier, with its text, where this holds
 abbrev pub with_named_if : Bool → SiteOf → Ident → ℕ → List DiagOf → List DiagOf
 with_named_if b site i code ds = cond b (with_named site i code ds) ds
 
@@ -53,5 +54,6 @@ with_named_if b site i code ds = cond b (with_named site i code ds) ds
 abbrev pub type_text : SiteOf → Ty → List ℕ
 type_text site t = text_of_type site.layout site.names t
 
+-- the printed name of a scope
 abbrev pub title : SiteOf → Scope → List ℕ
 title site s = title_of site.layout site.names s

@@ -4,6 +4,7 @@ use Rattle.jv_tree.specs.TypeTree.{ids_of}
 use Rattle.jv_expr.specs.declared.site.Site.{Site}
 use Rattle.jv_expr.specs.Site.{SiteOf}
 
+-- the plain data of a place of the code
 abbrev pub site_of : Site → SiteOf
 site_of s = record {
   layout = s.layout.now;

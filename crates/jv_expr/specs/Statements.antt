@@ -23,6 +23,7 @@ Scoped = List Local × List DiagOf
 abbrev pub effect_checked : SiteOf → List Local → ExprTree → List DiagOf → Rule (List DiagOf)
 effect_checked site vs x ds = and_then (typed site vs x ds) (λ v. done v.1)
 
+-- expressions whose values are left alone, one after another
 abbrev pub effects_checked : SiteOf → List Local → ExprTrees → List DiagOf → Rule (List DiagOf)
 effects_checked site vs no_exprs ds = done ds
 effects_checked site vs (exprs x xs) ds = and_then (effect_checked site vs x ds) (λ ds. effects_checked site vs xs ds)
@@ -31,6 +32,7 @@ effects_checked site vs (exprs x xs) ds = and_then (effect_checked site vs x ds)
 abbrev pub condition_checked : SiteOf → List Local → ExprTree → List DiagOf → Rule (List DiagOf)
 condition_checked site vs x ds = and_then (typed site vs x ds) (λ v. done (with_condition site (start x) v.0.ty v.1))
 
+-- a condition that may be left out
 abbrev pub optional_condition : SiteOf → List Local → Option ExprTree → List DiagOf → Rule (List DiagOf)
 optional_condition site vs None ds = done ds
 optional_condition site vs (Some x) ds = condition_checked site vs x ds
@@ -40,6 +42,7 @@ abbrev pub value_returned : SiteOf → ℕ → Option Ty → ℕ → Ty → List
 value_returned site at None place t ds = done (with_fault site at 53 [] ds)
 value_returned site at (Some r) place t ds = assigned_to site place t r ds
 
+-- a `return` at an offset, with a value or without one; without one, none may be needed there (JLS 14.17)
 abbrev pub returned : SiteOf → ℕ → List Local → Option ExprTree → List DiagOf → Rule (List DiagOf)
 returned site at vs None ds = done (with_fault_if (is_some site.result) site at 53 [] ds)
 returned site at vs (Some x) ds = and_then (typed site vs x ds) (λ v. value_returned site at site.result (start x) v.0.ty v.1)
@@ -50,6 +53,7 @@ returned site at vs (Some x) ds = and_then (typed site vs x ds) (λ v. value_ret
 abbrev pub declared : SiteOf → Ident → Ty → Bool → List Local → List DiagOf → Scoped
 declared site i t sealed vs ds = (vs ++ record { name = i.id; ty = t; sealed = sealed } ∷ [], with_named_if (is_some (latest vs i.id None)) site i 39 ds)
 
+-- an initializer of a variable of this type, which may be left out
 abbrev pub optional_init : SiteOf → List Local → Ty → Option InitTree → List DiagOf → Rule (List DiagOf)
 optional_init site vs t None ds = done ds
 optional_init site vs t (Some x) ds = init_typed site vs t x ds
@@ -60,6 +64,7 @@ variable_checked site is_final t v vs ds =
     and_then (optional_init site (declared site v.name t (is_final && is_some v.init) vs ds).0 t v.init (declared site v.name t (is_final && is_some v.init) vs ds).1) (λ ds'.
     done ((declared site v.name t (is_final && is_some v.init) vs ds).0, ds'))
 
+-- the variables of a declaration, one after another, each in the scope of those before it
 abbrev pub variables_checked : SiteOf → Bool → Ty → List VarTree → List Local → List DiagOf → Rule Scoped
 variables_checked site is_final t [] vs ds = done (vs, ds)
 variables_checked site is_final t (x ∷ xs) vs ds = and_then (variable_checked site is_final t x vs ds) (λ s. variables_checked site is_final t xs s.0 s.1)
@@ -95,6 +100,7 @@ abbrev mutual
   checked site loop (stmt at break) vs ds = done (vs, in_loop site at loop ds)
   checked site loop (stmt at continue) vs ds = done (vs, in_loop site at loop ds)
 
+  -- statements, one after another, each in the scope of the variables that those before it declare
   pub all_checked : SiteOf → Bool → StmtTrees → List Local → List DiagOf → Rule Scoped
   all_checked site loop no_stmts vs ds = done (vs, ds)
   all_checked site loop (stmts x xs) vs ds = and_then (checked site loop x vs ds) (λ s. all_checked site loop xs s.0 s.1)
@@ -105,6 +111,7 @@ abbrev mutual
   branches_checked site loop (branches x s xs) vs ds =
       and_then (condition_checked site vs x ds) (λ ds. and_then (checked site loop s vs ds) (λ t. branches_checked site loop xs t.0 t.1))
 
+  -- what stands behind the `else` of an `if`, where there is one
   pub else_checked : SiteOf → Bool → ElseTree → List Local → List DiagOf → Rule Scoped
   else_checked site loop no_else vs ds = done (vs, ds)
   else_checked site loop (otherwise s) vs ds = checked site loop s vs ds

@@ -55,6 +55,7 @@ is_variable_kind (cast t x) = false
 is_variable_kind (choice x y z) = false
 is_variable_kind (assign at op x y) = false
 
+-- an expression may be a variable by its form
 abbrev pub is_variable : ExprTree → Bool
 is_variable (expr at k) = is_variable_kind k
 
@@ -86,6 +87,7 @@ is_this_kind (cast t x) = false
 is_this_kind (choice x y z) = false
 is_this_kind (assign at op x y) = false
 
+-- an expression is `this`
 abbrev pub is_this : ExprTree → Bool
 is_this (expr at k) = is_this_kind k
 
@@ -113,6 +115,7 @@ plain_name_at at (cast t x) = None
 plain_name_at at (choice x y z) = None
 plain_name_at at (assign at' op x y) = None
 
+-- the identifiers of an expression that is a name without parentheses
 abbrev pub plain_name : ExprTree → Option (List Ident)
 plain_name (expr at k) = plain_name_at at k
 
@@ -207,6 +210,7 @@ abbrev mutual
   links_typed site vs t no_links ds = done (t, ds)
   links_typed site vs t (links at op x xs) ds = and_then (link_typed site vs t at op x ds) (λ u. links_typed site vs u.0 xs u.1)
 
+  -- one operator of a chain, at an offset, with an operand of this type before it and an operand or a type behind it
   pub link_typed : SiteOf → List Local → Ty → ℕ → ℕ → OperandTree → List DiagOf → Checking Ty
   link_typed site vs t at op (operand x) ds = and_then (typed site vs x ds) (λ v. binary_on site at op t v.0.ty v.1)
   link_typed site vs t at op (of_type u) ds = and_then (written_at site u ds) (λ w. binary_on site at op t w.0 w.1)
@@ -216,6 +220,7 @@ abbrev mutual
   init_typed site vs t (one x) ds = and_then (typed site vs x ds) (λ v. assigned_to site (start x) v.0.ty t v.1)
   init_typed site vs t (list at xs) ds = inits_typed site vs (element_needed t) xs (with_list site at t ds)
 
+  -- the initializers of a list, each of a variable of this type
   pub inits_typed : SiteOf → List Local → Ty → InitTrees → List DiagOf → Rule (List DiagOf)
   inits_typed site vs t no_inits ds = done ds
   inits_typed site vs t (inits x xs) ds = and_then (init_typed site vs t x ds) (λ ds. inits_typed site vs t xs ds)

@@ -59,6 +59,7 @@ outward_value site i Several ds = bad_named site i 43 ds
 outward_value site i TooManyFields ds = bad_named site i 41 ds
 outward_value site i Nowhere ds = bad_named site i 40 ds
 
+-- the local variable, where one was found, and else a field of the bodies around
 abbrev pub or_field : SiteOf → Option Local → Ident → List DiagOf → Checking Value
 or_field site None i ds = and_then (field_outward site.layout site.bodies i.id) (λ f. outward_value site i f ds)
 or_field site (Some v) i ds = done (local_value v, ds)
@@ -78,6 +79,7 @@ type_part site front behind t ds =
 abbrev pub several_part : SiteOf → List Ident → List DiagOf → Checking Denoted
 several_part site front ds = done (Unknown, with_fault site (start_of front) 21 (written site.names front ∷ []) ds)
 
+-- a part with too many paths
 abbrev pub many_part : SiteOf → Ident → List DiagOf → Checking Denoted
 many_part site i ds = done (Unknown, with_named site i 41 ds)
 
@@ -114,10 +116,12 @@ head_found site i Several ds = as_variable (outward_value site i Several ds)
 head_found site i TooManyFields ds = as_variable (outward_value site i TooManyFields ds)
 head_found site i Nowhere ds = and_then (simple_type site.layout site.file site.bodies i.id) (λ m. type_meant site root_scope (i ∷ []) i m ds)
 
+-- the first part: the local variable, where one was found, and else what the name means besides
 abbrev pub or_head : SiteOf → Option Local → Ident → List DiagOf → Checking Denoted
 or_head site None i ds = and_then (field_outward site.layout site.bodies i.id) (λ f. head_found site i f ds)
 or_head site (Some v) i ds = done (Variable (local_value v), ds)
 
+-- the first part of a name: the innermost local variable, or else a field, a type or a package
 unfoldable pub head_part : SiteOf → List Local → Ident → List DiagOf → Checking Denoted
 head_part site vs i ds = or_head site (latest vs i.id None) i ds
 
@@ -142,6 +146,7 @@ next_part_of site front (TypeName t behind) i ds = and_then (field site.layout t
 next_part_of site front (Package p) i ds = and_then (package_type site.layout p i.id) (λ m. type_meant site p front i m ds)
 next_part_of site front Unknown i ds = done (Unknown, ds)
 
+-- the next part of a name, behind what the parts before it stand for
 unfoldable pub next_part : SiteOf → List Ident → Denoted → Ident → List DiagOf → Checking Denoted
 next_part site front d i ds = next_part_of site front d i ds
 
@@ -175,6 +180,7 @@ name_value_of site vs [] ds = done (bad_value, ds)
 name_value_of site vs (i ∷ []) ds = simple_name site vs i ds
 name_value_of site vs (i ∷ j ∷ js) ds = and_then (denoted site vs i (j ∷ js) ds) (λ d. done (ended_value site i (j ∷ js) d.0 d.1))
 
+-- a name as the value of an expression
 unfoldable pub name_value : SiteOf → List Local → List Ident → List DiagOf → Checking Value
 name_value site vs ids ds = name_value_of site vs ids ds
 
@@ -185,9 +191,11 @@ ended_front site i is (TypeName t behind) ds = (TypeFront t, ds)
 ended_front site i is (Package p) ds = (ValueFront bad_value, with_fault site i.at 40 (written site.names (i ∷ is) ∷ []) ds)
 ended_front site i is Unknown ds = (ValueFront bad_value, ds)
 
+-- a name in front of the dot, by what it stands for; none has no identifier
 abbrev pub name_front_of : SiteOf → List Local → List Ident → List DiagOf → Checking Front
 name_front_of site vs [] ds = done (ValueFront bad_value, ds)
 name_front_of site vs (i ∷ is) ds = and_then (denoted site vs i is ds) (λ d. done (ended_front site i is d.0 d.1))
 
+-- what stands in front of the dot of a call, by its name
 unfoldable pub name_front : SiteOf → List Local → List Ident → List DiagOf → Checking Front
 name_front site vs ids ds = name_front_of site vs ids ds

@@ -41,6 +41,7 @@ declared_name (type_decl name ms i es is xs) = name.id
 abbrev pub declares : List TypeDeclTree → NameId → Bool
 declares ds n = list_any (λ d. (declared_name d).0 == n.0) ds
 
+-- whether there is none
 abbrev pub is_none : {A : Type 0} → Option A → Bool
 is_none None = true
 is_none (Some a) = false
@@ -73,6 +74,7 @@ by_clashes names file w ids s own taken = record {
   diags = w.diags ++ (fault_if own (at_import names file 13 ids) ++ fault_if taken (at_import names file 14 ids));
 }
 
+-- a single import of a type, behind the imports so far, by the top-level types of its file
 abbrev pub with_single : LayoutOf → List (List ℕ) → ℕ → List TypeDeclTree → ImportsOf → List Ident → Scope → ImportsOf
 with_single l names file ds w ids s = by_clashes names file w ids s (declares ds (last_name ids) && not (is_own l file s)) (is_taken w.singles (last_name ids) s)
 

@@ -27,15 +27,19 @@ use Rattle.jv_header.specs.Imports.{imports_rule}
 
 -- ---- a rule looks at a graph by its own queries alone
 
+-- the rule of the header of a type looks at a graph by its own queries alone
 abbrev pub HeadersReadOnlyTheirQueries : Type 0
 HeadersReadOnlyTheirQueries = (l : LayoutOf) (names : List (List ℕ)) (c : Scope) (extends implements : List (List Ident)) → ReadsOnlyItsQueries (header_rule l names c extends implements)
 
+-- the rule of the dependence of a type on itself, by its row, looks at a graph by its own queries alone
 abbrev pub DependencesReadOnlyTheirQueries : Type 0
 DependencesReadOnlyTheirQueries = (l : LayoutOf) (names : List (List ℕ)) (c : Scope) (name : Ident) (row : List Scope) → ReadsOnlyItsQueries (depends_rule l names c name row)
 
+-- the rule of a reference to a type looks at a graph by its own queries alone
 abbrev pub ReferencesReadOnlyTheirQueries : Type 0
 ReferencesReadOnlyTheirQueries = (l : LayoutOf) (file : ℕ) (bodies : List Scope) (ids : List Ident) → ReadsOnlyItsQueries (reference l file bodies ids)
 
+-- the rule of the imports of a file looks at a graph by its own queries alone
 abbrev pub ImportsReadOnlyTheirQueries : Type 0
 ImportsReadOnlyTheirQueries = (l : LayoutOf) (names : List (List ℕ)) (file : ℕ) (u : UnitTree) → ReadsOnlyItsQueries (imports_rule l names file u)
 

@@ -15,6 +15,7 @@ use Rattle.jv_names.specs.Replies.{Rule}
 use Rattle.jv_header.specs.declared.header_progress.HeaderProgress.{HeaderProgress}
 use Rattle.jv_header.specs.Header.{header_reference}
 
+-- what is replied to each query: its answer, where that has come
 abbrev pub Replies : Type 0
 Replies = Query JavaPred → Option (Answer JavaDatum)
 

@@ -3,6 +3,7 @@ pub mod Putting
 pub mod Sorting
 pub mod Stepping
 pub mod Behind
+pub mod Fitting
 pub mod Looping
 pub mod Keying
 pub mod Declaring

@@ -12,6 +12,7 @@ use Rattle.jv_layout.specs.Scopes.{place_of}
 use Rattle.jv_layout.specs.Readers.{type_at, member_at}
 use Rattle.jv_layout.specs.Skeleton.{below, is_first_type, is_first_member, package_row_at, parent_scope}
 
+-- the simple name by what a scope is: that of a package, a type or a member, and none of any other
 abbrev pub name_at : LayoutOf → Place → Option NameId
 name_at l (Package p) = Some (package_row_at l p).name
 name_at l (Ty t) = Some (type_at l t).name
@@ -35,6 +36,7 @@ is_this n (Some m) = m.0 == n.0
 abbrev pub is_named : LayoutOf → NameId → Scope → Bool
 is_named l n s = is_this n (simple_name l s)
 
+-- whether this is a type with the name of an earlier one of its scope, or a member with that of an earlier one of its kind
 abbrev pub is_duplicate_at : LayoutOf → Place → Bool
 is_duplicate_at l (Ty t) = not (is_first_type l t)
 is_duplicate_at l (Member m) = not (is_first_member l m)
@@ -61,5 +63,6 @@ has_subpackage l s n = list_any (is_subpackage s n) l.packages
 abbrev pub repeated_types : LayoutOf → List Bool
 repeated_types l = map (λ t. not (is_first_type l t)) (below (length l.types))
 
+-- for each member whether it is a duplicate
 abbrev pub repeated_members : LayoutOf → List Bool
 repeated_members l = map (λ m. not (is_first_member l m)) (below (length l.members))

@@ -21,6 +21,7 @@ is_root (Ty t) = false
 is_root (Member m) = false
 is_root (Signature m) = false
 
+-- whether a scope is a package, the unnamed one or another
 abbrev pub is_package : Place → Bool
 is_package Root = false
 is_package Outside = false
@@ -31,6 +32,7 @@ is_package (Ty t) = false
 is_package (Member m) = false
 is_package (Signature m) = false
 
+-- whether a scope is a file
 abbrev pub is_file : Place → Bool
 is_file Root = false
 is_file Outside = false
@@ -41,6 +43,7 @@ is_file (Ty t) = false
 is_file (Member m) = false
 is_file (Signature m) = false
 
+-- whether a scope is a type
 abbrev pub is_type : Place → Bool
 is_type Root = false
 is_type Outside = false
@@ -51,6 +54,7 @@ is_type (Ty t) = true
 is_type (Member m) = false
 is_type (Signature m) = false
 
+-- whether a scope is a member
 abbrev pub is_member : Place → Bool
 is_member Root = false
 is_member Outside = false
@@ -61,6 +65,7 @@ is_member (Ty t) = false
 is_member (Member m) = true
 is_member (Signature m) = false
 
+-- whether a scope is the signature of a member
 abbrev pub is_signature : Place → Bool
 is_signature Root = false
 is_signature Outside = false

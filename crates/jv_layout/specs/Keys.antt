@@ -14,6 +14,7 @@ use Rattle.jv_layout.specs.Skeleton.{below, home_of, label_of}
 abbrev pub type_key : LayoutOf → TypeRow → Key
 type_key l r = record { home = home_of l r; label = TYPE; name = r.name }
 
+-- the key of a member: the scope of its type, the label of its edge, and its name
 abbrev pub member_key : LayoutOf → MemberRow → Key
 member_key l r = record { home = type_scope l r.owner; label = label_of r.kind; name = r.name }
 

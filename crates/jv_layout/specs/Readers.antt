@@ -68,6 +68,7 @@ member_access_by l m t Field = cond t.interface Public (written_access m.modifie
 member_access_by l m t Method = cond t.interface Public (written_access m.modifiers)
 member_access_by l m t Ctor = cond t.interface Public (written_access m.modifiers)
 
+-- the access by what a scope is: that of a type or a member, and package access elsewhere
 abbrev pub access_at : LayoutOf → Place → Access
 access_at l (Ty t) = type_access l (type_at l t)
 access_at l (Member m) = member_access_by l (member_at l m) (owner_of l m) (member_at l m).kind
@@ -89,6 +90,7 @@ is_field Method = false
 is_field Ctor = false
 is_field DefaultCtor = false
 
+-- whether a member is a method
 abbrev pub is_method : MemberKind → Bool
 is_method Field = false
 is_method Method = true
@@ -104,6 +106,7 @@ not_nested (Some t) = false
 abbrev pub is_static_type : LayoutOf → TypeRow → Bool
 is_static_type l r = r.modifiers.is_static || (r.interface || (not_nested r.owner || lies_in_interface l r))
 
+-- whether this is a type or a member that is static: fields of interfaces are
 abbrev pub is_static_at : LayoutOf → Place → Bool
 is_static_at l (Ty t) = is_static_type l (type_at l t)
 is_static_at l (Member m) = (member_at l m).modifiers.is_static || (is_field (member_at l m).kind && (owner_of l m).interface)
@@ -118,6 +121,7 @@ is_static_at l (Signature m) = false
 abbrev pub is_static_of : LayoutOf → Scope → Bool
 is_static_of l s = is_static_at l (place_of l s)
 
+-- whether this is a type or a member that is final: where that is written; fields of interfaces are
 abbrev pub is_final_at : LayoutOf → Place → Bool
 is_final_at l (Ty t) = (type_at l t).modifiers.is_final
 is_final_at l (Member m) = (member_at l m).modifiers.is_final || (is_field (member_at l m).kind && (owner_of l m).interface)
@@ -132,6 +136,7 @@ is_final_at l (Signature m) = false
 abbrev pub is_final_of : LayoutOf → Scope → Bool
 is_final_of l s = is_final_at l (place_of l s)
 
+-- whether this is a type or a member that is abstract: where that is written; methods of interfaces are
 abbrev pub is_abstract_at : LayoutOf → Place → Bool
 is_abstract_at l (Ty t) = (type_at l t).modifiers.is_abstract
 is_abstract_at l (Member m) = (member_at l m).modifiers.is_abstract || (is_method (member_at l m).kind && (owner_of l m).interface)
@@ -146,6 +151,7 @@ is_abstract_at l (Signature m) = false
 abbrev pub is_abstract_of : LayoutOf → Scope → Bool
 is_abstract_of l s = is_abstract_at l (place_of l s)
 
+-- whether this is a type that is an interface
 abbrev pub is_interface_place : LayoutOf → Place → Bool
 is_interface_place l (Ty t) = (type_at l t).interface
 is_interface_place l Outside = false
@@ -160,6 +166,7 @@ is_interface_place l (Signature m) = false
 abbrev pub is_interface_of : LayoutOf → Scope → Bool
 is_interface_of l s = is_interface_place l (place_of l s)
 
+-- the number of the file by what a scope is: that of a file, and of what stands in one; 0 elsewhere
 abbrev pub file_at : LayoutOf → Place → ℕ
 file_at l (File f) = f
 file_at l (Ty t) = (type_at l t).file
@@ -174,6 +181,7 @@ file_at l (Package p) = 0
 abbrev pub file_of : LayoutOf → Scope → ℕ
 file_of l s = file_at l (place_of l s)
 
+-- the type in whose body a type, a member or a signature stands, by what a scope is; none elsewhere
 abbrev pub owner_at : LayoutOf → Place → Option Scope
 owner_at l (Ty t) = option_map (type_scope l) (type_at l t).owner
 owner_at l (Member m) = Some (type_scope l (member_at l m).owner)
@@ -188,6 +196,7 @@ owner_at l (File f) = None
 abbrev pub owner_scope : LayoutOf → Scope → Option Scope
 owner_scope l s = owner_at l (place_of l s)
 
+-- the package by what a scope is: that of a file, a type, a member or a signature; the scope itself elsewhere
 abbrev pub package_at : LayoutOf → Scope → Place → Scope
 package_at l s (File f) = file_package l f
 package_at l s (Ty t) = file_package l (type_at l t).file
@@ -202,6 +211,7 @@ package_at l s (Package p) = s
 abbrev pub package_of : LayoutOf → Scope → Scope
 package_of l s = package_at l s (place_of l s)
 
+-- the outermost type by what a scope is: that of a type, a member or a signature; the scope itself elsewhere
 abbrev pub top_at : LayoutOf → Scope → Place → Scope
 top_at l s (Ty t) = type_scope l (type_at l t).top
 top_at l s (Member m) = type_scope l (owner_of l m).top
@@ -220,6 +230,7 @@ top_of l s = top_at l s (place_of l s)
 abbrev pub members_of_type : LayoutOf → ℕ → List ℕ
 members_of_type l t = filter (λ m. (member_at l m).owner == t) (range_with_len 0 (length l.members))
 
+-- the members by what a scope is: those of a type, and none elsewhere
 abbrev pub members_at : LayoutOf → Place → List Scope
 members_at l (Ty t) = map (member_scope l) (members_of_type l t)
 members_at l Outside = []
@@ -234,6 +245,7 @@ members_at l (Signature m) = []
 abbrev pub members_of : LayoutOf → Scope → List Scope
 members_of l s = members_at l (place_of l s)
 
+-- the scope of the signature by what a scope is: that of a member; the scope itself elsewhere
 abbrev pub signature_at : LayoutOf → Scope → Place → Scope
 signature_at l s (Member m) = signature_of_member l m
 signature_at l s Outside = s
@@ -256,5 +268,6 @@ types_of l = map (type_scope l) (range_with_len 0 (length l.types))
 abbrev pub object_scope : LayoutOf → Scope
 object_scope l = type_scope l 0
 
+-- the scope of the prelude's `String`, which is the second type
 abbrev pub string_scope : LayoutOf → Scope
 string_scope l = type_scope l 1

@@ -10,12 +10,15 @@ use Rattle.jv_layout.specs.Folder.{LayoutOf}
 abbrev pub scope_at : ℕ → Scope
 scope_at n = record { unit = nobody; serial = n }
 
+-- the scope of the root
 abbrev pub root_scope : Scope
 root_scope = scope_at 0
 
+-- the scope of the unnamed package
 abbrev pub unnamed_scope : Scope
 unnamed_scope = scope_at 1
 
+-- the scope of the package with this number
 abbrev pub package_scope : ℕ → Scope
 package_scope p = scope_at (2 + p)
 
@@ -23,6 +26,7 @@ package_scope p = scope_at (2 + p)
 abbrev pub first_file : LayoutOf → ℕ
 first_file l = 2 + length l.packages
 
+-- the scope of the file with this number
 abbrev pub file_scope : LayoutOf → ℕ → Scope
 file_scope l f = scope_at (first_file l + f)
 
@@ -30,6 +34,7 @@ file_scope l f = scope_at (first_file l + f)
 abbrev pub first_type : LayoutOf → ℕ
 first_type l = first_file l + length l.files
 
+-- the scope of the type with this number
 abbrev pub type_scope : LayoutOf → ℕ → Scope
 type_scope l t = scope_at (first_type l + t)
 
@@ -37,6 +42,7 @@ type_scope l t = scope_at (first_type l + t)
 abbrev pub first_member : LayoutOf → ℕ
 first_member l = first_type l + length l.types
 
+-- the scope of the member with this number
 abbrev pub member_scope : LayoutOf → ℕ → Scope
 member_scope l m = scope_at (first_member l + m)
 

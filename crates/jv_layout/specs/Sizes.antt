@@ -7,9 +7,11 @@ use Rattle.jv_layout.specs.Folder.{clause_of}
 
 -- how many names a declaration declares: types, fields, methods and constructors
 abbrev mutual
+  -- how many names a class or an interface declares: its own, and those of its body
   pub decl_names : TypeDeclTree → ℕ
   decl_names (type_decl name ms i es is xs) = 1 + body_names xs
 
+  -- how many names members declare: variables of fields, methods, constructors, and nested types with those of their bodies
   pub body_names : MemberTrees → ℕ
   body_names no_members = 0
   body_names (members (nested d) xs) = decl_names d + body_names xs

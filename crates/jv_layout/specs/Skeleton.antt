@@ -29,6 +29,7 @@ abbrev pub home_by : LayoutOf → Option ℕ → ℕ → Scope
 home_by l None file = file_package l file
 home_by l (Some t) file = type_scope l t
 
+-- the scope that declares the type of a row
 abbrev pub home_of : LayoutOf → TypeRow → Scope
 home_of l r = home_by l r.owner r.file
 
@@ -57,6 +58,7 @@ is_first_member l m = not (list_any (are_one_member (member_at l m)) (take m l.m
 
 -- ---- edges
 
+-- an edge: the scope that it leaves, its label, and the scope that it leads to
 abbrev pub edge : Scope → ℕ → Scope → Edge
 edge s k t = record { from = s; label = k; to = t }
 
@@ -77,6 +79,7 @@ parent_scope (Some p) = package_scope p
 abbrev pub package_edge : LayoutOf → ℕ → Edge
 package_edge l p = edge (parent_scope (package_row_at l p).parent) PKG (package_scope p)
 
+-- the edges PKG, one for each package
 abbrev pub package_edges : LayoutOf → List Edge
 package_edges l = map (package_edge l) (below (length l.packages))
 
@@ -84,6 +87,7 @@ package_edges l = map (package_edge l) (below (length l.packages))
 abbrev pub file_edge : LayoutOf → ℕ → Edge
 file_edge l f = edge (file_scope l f) PKGOF (file_package l f)
 
+-- the edges PKGOF, one for each file
 abbrev pub file_edges : LayoutOf → List Edge
 file_edges l = map (file_edge l) (below (length l.files))
 
@@ -91,6 +95,7 @@ file_edges l = map (file_edge l) (below (length l.files))
 abbrev pub lang_edge : LayoutOf → ℕ → Edge
 lang_edge l f = edge (file_scope l f) ODI (file_package l 0)
 
+-- the edges ODI to `java.lang`, one for each file
 abbrev pub lang_edges : LayoutOf → List Edge
 lang_edges l = map (lang_edge l) (below (length l.files))
 
@@ -102,6 +107,7 @@ first_types l = filter (is_first_type l) (below (length l.types))
 abbrev pub type_edge : LayoutOf → ℕ → Edge
 type_edge l t = edge (home_of l (type_at l t)) TYPE (type_scope l t)
 
+-- the edges TYPE, one for each type that is no duplicate
 abbrev pub type_edges : LayoutOf → List Edge
 type_edges l = map (type_edge l) (first_types l)
 
@@ -113,6 +119,7 @@ is_top l t = not_nested (type_at l t).owner
 abbrev pub self_edge : LayoutOf → ℕ → Edge
 self_edge l t = edge (file_scope l (type_at l t).file) SELF (type_scope l t)
 
+-- the edges SELF, one for each top-level type that is no duplicate
 abbrev pub self_edges : LayoutOf → List Edge
 self_edges l = map (self_edge l) (filter (is_top l) (first_types l))
 
@@ -124,6 +131,7 @@ first_members l = filter (is_first_member l) (below (length l.members))
 abbrev pub member_edge : LayoutOf → ℕ → Edge
 member_edge l m = edge (type_scope l (member_at l m).owner) (label_of (member_at l m).kind) (member_scope l m)
 
+-- the edges FIELD, METH and CTOR, one for each member that is no duplicate
 abbrev pub member_edges : LayoutOf → List Edge
 member_edges l = map (member_edge l) (first_members l)
 
@@ -131,26 +139,33 @@ member_edges l = map (member_edge l) (first_members l)
 abbrev pub signature_edge : LayoutOf → ℕ → Edge
 signature_edge l m = edge (member_scope l m) SIG (signature_of_member l m)
 
+-- the edges SIG, one for each member, duplicates among them
 abbrev pub signature_edges : LayoutOf → List Edge
 signature_edges l = map (signature_edge l) (below (length l.members))
 
 -- ---- data: packages, types and members have their simple names
 
+-- the datum of a package: its name
 abbrev pub package_datum : LayoutOf → ℕ → Scope × JavaDatum
 package_datum l p = (package_scope p, Package (package_row_at l p).name)
 
+-- the datum of a type: its name
 abbrev pub type_datum : LayoutOf → ℕ → Scope × JavaDatum
 type_datum l t = (type_scope l t, TypeName (type_at l t).name)
 
+-- the datum of a member: its name
 abbrev pub member_datum : LayoutOf → ℕ → Scope × JavaDatum
 member_datum l m = (member_scope l m, Member (member_at l m).name)
 
+-- the data of all packages
 abbrev pub package_data : LayoutOf → List (Scope × JavaDatum)
 package_data l = map (package_datum l) (below (length l.packages))
 
+-- the data of all types
 abbrev pub type_data : LayoutOf → List (Scope × JavaDatum)
 type_data l = map (type_datum l) (below (length l.types))
 
+-- the data of all members
 abbrev pub member_data : LayoutOf → List (Scope × JavaDatum)
 member_data l = map (member_datum l) (below (length l.members))
 
@@ -160,6 +175,7 @@ member_data l = map (member_datum l) (below (length l.members))
 abbrev pub file_hold : LayoutOf → ℕ → List RowHold
 file_hold l f = record { scope = file_scope l f; label = SIMP; unit = f } ∷ record { scope = file_scope l f; label = ODI; unit = f } ∷ []
 
+-- the rows that the units of files hold: SIMP and ODI of each file
 abbrev pub file_holds : LayoutOf → List RowHold
 file_holds l = flat_map (file_hold l) (below (length l.files))
 
@@ -167,6 +183,7 @@ file_holds l = flat_map (file_hold l) (below (length l.files))
 abbrev pub type_hold : LayoutOf → ℕ → RowHold
 type_hold l t = record { scope = type_scope l t; label = EXT; unit = length l.files + t }
 
+-- the rows that the units of types hold: EXT of each type
 abbrev pub type_holds : LayoutOf → List RowHold
 type_holds l = map (type_hold l) (below (length l.types))
 
@@ -174,11 +191,13 @@ type_holds l = map (type_hold l) (below (length l.types))
 abbrev pub signature_hold : LayoutOf → ℕ → DatumHold
 signature_hold l m = record { scope = signature_of_member l m; unit = length l.files + (member_at l m).owner }
 
+-- the data that the units of types hold: those of the signatures of all members
 abbrev pub signature_holds : LayoutOf → List DatumHold
 signature_holds l = map (signature_hold l) (below (length l.members))
 
 -- ---- the whole
 
+-- the opening of a layout: all scopes, edges, data and holds, and one unit for each file and each type
 abbrev pub skeleton_of : LayoutOf → OpeningOf JavaDatum
 skeleton_of l = record {
   scopes = map scope_at (below (scope_count l));

@@ -61,6 +61,7 @@ member_suffix names n DefaultCtor = codes "#new"
 abbrev pub member_title : LayoutOf → List (List ℕ) → ℕ → List ℕ
 member_title l names m = type_title l names (member_at l m).owner ++ member_suffix names (member_at l m).name.0 (member_at l m).kind
 
+-- the printed name by what a scope is; a file, and what is outside of the layout, has none
 abbrev pub title_at : LayoutOf → List (List ℕ) → Place → List ℕ
 title_at l names Outside = []
 title_at l names Root = codes "(root)"

@@ -6,7 +6,7 @@ ghost use Rattle.jv_layout.specs.Fits.{fits, may_step, is_root, is_package, is_f
 use crate::place::Place;
 use crate::tables::{Layout, label_of};
 use jv_instance::labels;
-use sg_base::Path;
+use sg_base::PathView;
 
 /// Whether a scope is the root.
 fn is_root(place: Place) -> bool
@@ -69,19 +69,20 @@ impl Layout {
 
     /// Whether each scope of a path is one of the layout, and each step goes between the kinds of scopes that its label
     /// joins. It takes time in the length of the path, and no memory.
-    pub fn fits(&self, p: &Path) -> bool
+    pub fn fits(&self, p: &PathView<'_>) -> bool
         ensures { result ≡ fits self.now p.now }
     {
-        let mut from = self.place(p.start());
-        if matches!(from, Place::Outside) {
+        if matches!(self.place(p.start()), Place::Outside) {
             return false;
         }
-        for step in p.steps() {
+        let mut at = p.copy();
+        while let Some((before, step)) = at.split_last() {
+            let from = self.place(before.end());
             let to = self.place(step.to);
             if !self.may_step(from, step.label.number(), to) {
                 return false;
             }
-            from = to;
+            at = before;
         }
         true
     }

@@ -42,6 +42,7 @@ call_diags l names c at s =
 abbrev pub only_class : LayoutOf → Scope → Option Scope
 only_class l s = cond (is_interface_of l s) None (Some s)
 
+-- the diagnostics of the call of the superclass's constructor at a place, where the superclass is a class; else none
 abbrev pub call_of : LayoutOf → List (List ℕ) → Scope → ℕ → Option Scope → Rule (List DiagOf)
 call_of l names c at None = done []
 call_of l names c at (Some s) = call_diags l names c at s
@@ -51,6 +52,7 @@ abbrev pub implicit_call : Option (ℕ × ExprTrees) → ℕ → Option ℕ
 implicit_call None at = Some at
 implicit_call (Some x) at = None
 
+-- where a member calls that of the superclass so: a constructor without a super call, and a default one, at the name
 abbrev pub calls_at : OwnMember → Option ℕ
 calls_at (own_field ms t v) = None
 calls_at (own_method m) = None
@@ -62,5 +64,6 @@ abbrev pub call_at : LayoutOf → List (List ℕ) → Scope → List (List Ident
 call_at l names c extends None = done []
 call_at l names c extends (Some at) = cond (is_scope c (object_scope l)) (done []) (and_then (superclass l c extends) (λ s. call_of l names c at (only_class l s)))
 
+-- the diagnostics of a member of a type, which extends these names, by the constructor that it calls without a super call
 unfoldable pub ctor_rule : LayoutOf → List (List ℕ) → Scope → List (List Ident) → OwnMember → Rule (List DiagOf)
 ctor_rule l names c extends m = call_at l names c extends (calls_at m)

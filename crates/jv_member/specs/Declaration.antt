@@ -31,10 +31,12 @@ abbrev pub of_fields : Bool → List ℕ
 of_fields true = 34 ∷ 37 ∷ 17 ∷ []
 of_fields false = 34 ∷ 33 ∷ 32 ∷ 37 ∷ 17 ∷ []
 
+-- those at a method: `public` and `abstract` in an interface, and all six in a class
 abbrev pub of_methods : Bool → List ℕ
 of_methods true = 34 ∷ 0 ∷ []
 of_methods false = 34 ∷ 33 ∷ 32 ∷ 37 ∷ 0 ∷ 17 ∷ []
 
+-- those at a constructor: `public`, `protected` and `private`
 abbrev pub of_ctors : List ℕ
 of_ctors = 34 ∷ 33 ∷ 32 ∷ []
 

@@ -7,5 +7,6 @@ use Rattle.jv_names.specs.Law.{ReadsOnlyItsQueries}
 use Rattle.jv_member.specs.Own.{OwnMember}
 use Rattle.jv_member.specs.Signatures.{signature_rule}
 
+-- the rule of the signature of a member, from its declaration, looks at a graph by its own queries alone
 abbrev pub SignaturesReadOnlyTheirQueries : Type 0
 SignaturesReadOnlyTheirQueries = (l : LayoutOf) (names : List (List ℕ)) (c : Scope) (class : NameId) (m : OwnMember) → ReadsOnlyItsQueries (signature_rule l names c class m)

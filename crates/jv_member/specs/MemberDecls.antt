@@ -6,6 +6,7 @@ use Rattle.jv_member.specs.declared.member_decl.MemberDecl.{MemberDecl}
 use Rattle.jv_member.specs.declared.member_decl.MemberDecl.TheVariants.{Field, Method, Ctor, DefaultCtor}
 use Rattle.jv_member.specs.Own.{OwnMember, own_field, own_method, own_ctor, default_ctor}
 
+-- the plain data of a member of the code
 abbrev pub own_of : MemberDecl → OwnMember
 own_of (Field ms t v) = own_field ms.now.words.items (type_tree t.now) (var_tree v.now)
 own_of (Method m) = own_method (method_tree m.now)

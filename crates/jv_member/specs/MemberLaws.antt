@@ -6,5 +6,6 @@ use Rattle.jv_tree.specs.DeclTree.{TypeDeclTree}
 use Rattle.jv_names.specs.Law.{ReadsOnlyItsQueries}
 use Rattle.jv_member.specs.Members.{members_rule}
 
+-- the rule of all members of a type looks at a graph by its own queries alone
 abbrev pub MembersReadOnlyTheirQueries : Type 0
 MembersReadOnlyTheirQueries = (l : LayoutOf) (names : List (List ℕ)) (c : Scope) (d : TypeDeclTree) → ReadsOnlyItsQueries (members_rule l names c d)

@@ -36,6 +36,7 @@ overrides l names c type s (own_method m) = cond (is_duplicate l s) (done []) (m
 overrides l names c type s (own_ctor k) = done []
 overrides l names c type s (default_ctor name) = done []
 
+-- a member with its scope is checked against what it is declared over
 abbrev pub member_overrides : LayoutOf → List (List ℕ) → Scope → Ident → Placed → Rule (List DiagOf)
 member_overrides l names c type p = overrides l names c type p.0 p.1
 
@@ -50,5 +51,6 @@ check_by l names c type extends ps =
     and_then (each (member_overrides l names c type) ps) (λ overs. and_then (inherited_rule l names c type) (λ meets. and_then (each (member_calls l names c extends) ps) (λ calls.
     done ((declarations_of l names c type ps ++ joined overs) ++ (meets ++ joined calls)))))
 
+-- the diagnostics of the members of a type by its declaration, whose members have the scopes of the type's in the layout
 abbrev pub members_rule : LayoutOf → List (List ℕ) → Scope → TypeDeclTree → Rule (List DiagOf)
 members_rule l names c (type_decl name ms i es is xs) = check_by l names c name es (placed (members_of l c) (own_members (type_decl name ms i es is xs)))

@@ -87,6 +87,7 @@ abbrev pub against : LayoutOf → List (List ℕ) → Scope → Ident → Scope 
 against l names c type m i TooMany = done (named_diag l names c 41 type type.id ∷ [])
 against l names c type m i (Scopes ks) = and_then (each (overriding l m) (with_objects l c i.id ks)) (λ codes. done (code_diags l names c i i.id codes))
 
+-- the diagnostics of a method of a type against the methods of its name above the type
 unfoldable pub method_rule : LayoutOf → List (List ℕ) → Scope → Ident → Scope → Ident → Rule (List DiagOf)
 method_rule l names c type m i = and_then (find_ends l Methods (for_name ABOVE c i.id)) (against l names c type m i)
 
@@ -97,6 +98,7 @@ abbrev pub name_or_none : Option NameId → NameId
 name_or_none None = record { 0 = 0 }
 name_or_none (Some n) = n
 
+-- the name of a method by its scope; where the layout has none for it, the name with the number 0
 abbrev pub method_name : LayoutOf → Scope → NameId
 method_name l m = name_or_none (simple_name l m)
 
@@ -104,9 +106,11 @@ method_name l m = name_or_none (simple_name l m)
 abbrev pub Groups : Type 0
 Groups = List (NameId × List Scope)
 
+-- two names are the same
 abbrev pub same_name : NameId → NameId → Bool
 same_name a b = a.0 == b.0
 
+-- the methods of a name so far; where there are none yet, an empty list
 abbrev pub or_nothing : Option (List Scope) → List Scope
 or_nothing None = []
 or_nothing (Some ms) = ms
@@ -115,6 +119,7 @@ or_nothing (Some ms) = ms
 abbrev pub with_method : LayoutOf → Groups → Scope → Groups
 with_method l gs m = insert_entry same_name gs (method_name l m) (or_nothing (lookup (same_name (method_name l m)) gs) ++ m ∷ [])
 
+-- the groups of some methods
 abbrev pub groups_of : LayoutOf → List Scope → Groups
 groups_of l ms = fold (with_method l) [] ms
 
@@ -176,6 +181,7 @@ some_fits l all (w ∷ ws) = and_then (fits_each l w.1 all) (λ ok. cond ok (don
 abbrev pub abstract_codes : LayoutOf → List Scope → List (Scope × SignatureOf) → Rule (List (Option ℕ))
 abstract_codes l ms ws = cond (length ws == length ms) (and_then (some_fits l ws ws) (λ ok. done (cond ok [] (Some 34 ∷ [])))) (done [])
 
+-- what is wrong with methods that meet, by the first that is not abstract; where there is none, all are abstract
 abbrev pub met_codes : LayoutOf → List Scope → Option Scope → List (Scope × SignatureOf) → Rule (List (Option ℕ))
 met_codes l ms None ws = abstract_codes l ms ws
 met_codes l ms (Some m) ws = concrete_codes l m (signature_among m ws) ws
@@ -184,6 +190,7 @@ met_codes l ms (Some m) ws = concrete_codes l m (signature_among m ws) ws
 abbrev pub meeting_codes : LayoutOf → List Scope → List (Scope × SignatureOf) → Rule (List (Option ℕ))
 meeting_codes l ms ws = cond (params_differ ws) (done (Some 36 ∷ [])) (met_codes l ms (first_concrete l ms) ws)
 
+-- what is wrong with the methods of one name that a type has; nothing where it declares one of them, or where there are fewer than two
 unfoldable pub meeting : LayoutOf → Scope → List Scope → Rule (List (Option ℕ))
 meeting l c ms = cond (declares_one l c ms || nat_lt (length ms) 2) (done []) (and_then (each (signature_of l) ms) (λ ss. meeting_codes l ms (whole_methods ms ss)))
 
@@ -201,5 +208,6 @@ abbrev pub all_groups : LayoutOf → List (List ℕ) → Scope → Ident → End
 all_groups l names c type TooMany = done (named_diag l names c 41 type type.id ∷ [])
 all_groups l names c type (Scopes ms) = and_then (each (group_rule l names c type) (groups_of l ms)) (λ ds. done (joined ds))
 
+-- the diagnostics of the methods that a type has, its own and those of its supertypes, as they meet in it
 unfoldable pub inherited_rule : LayoutOf → List (List ℕ) → Scope → Ident → Rule (List DiagOf)
 inherited_rule l names c type = and_then (find_ends l Methods (for_any METHODS c)) (all_groups l names c type)

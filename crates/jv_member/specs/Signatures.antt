@@ -26,6 +26,7 @@ void_type = record { base = Void; dims = 0 }
 abbrev pub types_of : List WrittenType → List Ty
 types_of ws = map (λ w. w.ty) ws
 
+-- the diagnostics of some written types, one after another
 abbrev pub diags_of : List WrittenType → List DiagOf
 diags_of ws = flat_map (λ w. w.diags) ws
 
@@ -33,9 +34,11 @@ diags_of ws = flat_map (λ w. w.diags) ws
 abbrev pub field_by : NameId → WrittenType → Signature
 field_by n w = record { datum = SignatureDatum n w.ty []; diags = w.diags }
 
+-- the signature of a method by its result and the types of its parameters
 abbrev pub method_by : NameId → WrittenType → List WrittenType → Signature
 method_by n r ps = record { datum = SignatureDatum n r.ty (types_of ps); diags = r.diags ++ diags_of ps }
 
+-- the signature of a constructor by the types of its parameters; its result is void
 abbrev pub ctor_by : NameId → List WrittenType → Signature
 ctor_by n ps = record { datum = SignatureDatum n void_type (types_of ps); diags = diags_of ps }
 

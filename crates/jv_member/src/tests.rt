@@ -17,8 +17,8 @@ use jv_layout::layout;
 use jv_names::{Oracle, for_any, for_name, kinds};
 use jv_tree::nodes::{class_or_interface, method, method_member, type_ref, unit};
 use jv_tree::{Base, Ident, Member, Mods, Name, NameId, Names, TypeDecl, Unit};
-use sg_base::{Label, Path, Scope, Step};
-use sg_query::{Answer, Found, FoundPaths, Query};
+use sg_base::{Label, Scope, Step};
+use sg_query::{Answer, FoundPaths, FoundTree, Query};
 use sg_reading::Known;
 use std::alloc::{AllocError, Global};
 use std::fmt::Write;
@@ -158,8 +158,8 @@ fn put_path(
     steps: Vec<Step>,
     datum: JavaDatum,
 ) -> Result<(), AllocError> {
-    let path = Path::new(query.start, steps);
-    let found = vec![in alloc; Found { path, datum }]?;
+    let mut found = FoundTree::new(alloc, query.start);
+    found.add(steps.as_slice(), datum)?;
     o.put(query, Answer::Paths(FoundPaths::new(alloc, found)?))
 }
 
@@ -299,22 +299,22 @@ fn superclass_constructor_takes_no_arguments(rt: HostRuntime) -> Result<(), Fail
     Ok(())
 }
 
-// The path from `String` through one of its supertypes to a method of that.
-fn inherited_path(alloc: Global, above: u32, method: u32) -> Result<Found<JavaDatum>, AllocError> {
-    let steps = vec![in alloc; step(labels::EXT, above), step(labels::METH, method)]?;
-    Ok(Found {
-        path: Path::new(scope(8), steps),
-        datum: JavaDatum::Member { name: NameId(M) },
-    })
+// Adds the path from `String` through one of its supertypes to a method of that.
+fn add_inherited(
+    found: &mut FoundTree<JavaDatum>,
+    above: u32,
+    method: u32,
+) -> Result<(), AllocError> {
+    let steps = [step(labels::EXT, above), step(labels::METH, method)];
+    found.add(&steps, JavaDatum::Member { name: NameId(M) })
 }
 
 // What is wrong with `String` where it inherits the methods of `A` and of `B`.
 fn met(alloc: Global, base: TypeBase, params: Vec<Ty>) -> Result<String, Fail> {
     let mut o = replies(alloc, base, params)?;
-    let found = vec![in alloc;
-        inherited_path(alloc, 9, 14)?,
-        inherited_path(alloc, 10, 16)?,
-    ]?;
+    let mut found = FoundTree::new(alloc, scope(8));
+    add_inherited(&mut found, 9, 14)?;
+    add_inherited(&mut found, 10, 16)?;
     o.put(
         for_any(kinds::METHODS, scope(8)),
         Answer::Paths(FoundPaths::new(alloc, found)?),

@@ -1,23 +1,79 @@
--- The scope that declares what stands at a path's end, by its place.
-use Rattle.std.proofs.Common.{◌≡◌, ℕ, ◌-◌, ◌≤◌, ◌<◌, List, [], ◌∷◌, length, slice_index_or, refl, subst, arith}
+-- What is read of a path from its end.
+use Rattle.std.proofs.Common.{◌≡◌, Bool, true, false, ◌&&◌, List, [], ◌∷◌, ◌++◌, refl, sym, ap, ◌∙◌}
+use Rattle.std.specs.Prelude.{◌==◌}
+use Rattle.std.specs.List.{list_all}
+use Rattle.std.proofs.lemmas.List.Folds.{list_all-append}
 use Rattle.sg_base.specs.declared.scope.Scope.{Scope}
 use Rattle.sg_base.specs.declared.step.Step.{Step}
-use Rattle.jv_names.specs.Inherited.{declarer}
+use Rattle.sg_base.specs.Path.{end_of}
+use Rattle.jv_instance.specs.declared.labels.TheConstants.{ODI}
+use Rattle.jv_names.specs.Ends.{is_on_demand}
+use Rattle.jv_names.specs.Inherited.{declarer, left_by}
 
--- with at most one step, the path's start
-pub declarer_short : (s : Scope) (ps : List Step) → length ps < 2 → s ≡ declarer s ps
-declarer_short s [] h = refl
-declarer_short s (p ∷ []) h = refl
-declarer_short s (p ∷ q ∷ ps) h = absurd (omega (arith, h))
+-- ---- tests of all items, the last one apart
 
-second_last : (s : Scope) (p q : Step) (ps : List Step) (d : Step) → (slice_index_or (p ∷ q ∷ ps) (length ps) d).to ≡ declarer s (p ∷ q ∷ ps)
-second_last s p q [] d = refl
-second_last s p q (r ∷ ps) d = second_last p.to q r ps d
+and_true : (a b : Bool) → b ≡ true → (a && (b && true)) ≡ a
+and_true true b e = ap (λ (c : Bool). c && true) e
+and_true false b e = refl
 
--- with more steps, the target of the last step but one
-pub declarer_long : (s : Scope) (ps : List Step) (d : Step) → 2 ≤ length ps → (slice_index_or ps (length ps - 2) d).to ≡ declarer s ps
-declarer_long s [] d h = absurd (omega (arith, h))
-declarer_long s (p ∷ []) d h = absurd (omega (arith, h))
-declarer_long s (p ∷ q ∷ ps) d h =
-    let e : length ps ≡ length (p ∷ q ∷ ps) - 2 = omega arith in
-    subst (λ (i : ℕ). (slice_index_or (p ∷ q ∷ ps) i d).to ≡ declarer s (p ∷ q ∷ ps)) e (second_last s p q ps d)
+and_false : (a b : Bool) → b ≡ false → (a && (b && true)) ≡ false
+and_false true b e = ap (λ (c : Bool). c && true) e
+and_false false b e = refl
+
+all_passed : {X : Type 0} (f : X → Bool) (xs : List X) (x : X) → f x ≡ true → list_all f (xs ++ x ∷ []) ≡ list_all f xs
+all_passed f xs x e = list_all-append f xs (x ∷ []) ∙ and_true (list_all f xs) (f x) e
+
+one_failed : {X : Type 0} (f : X → Bool) (xs : List X) (x : X) → f x ≡ false → list_all f (xs ++ x ∷ []) ≡ false
+one_failed f xs x e = list_all-append f xs (x ∷ []) ∙ and_false (list_all f xs) (f x) e
+
+-- ---- the scope that declares what stands at a path's end
+
+declarer_last : (s : Scope) (ps : List Step) (x : Step) → declarer s (ps ++ x ∷ []) ≡ end_of s ps
+declarer_last s [] x = refl
+declarer_last s (p ∷ []) x = refl
+declarer_last s (p ∷ q ∷ ps) x = declarer_last p.to (q ∷ ps) x
+
+-- with steps, where those in front of the last one end
+pub declarer_some : (s t : Scope) (ps qs : List Step) (x : Step) → t ≡ s → qs ≡ ps ++ x ∷ [] → end_of t ps ≡ declarer s qs
+declarer_some s t ps qs x a e = ap (λ (r : Scope). end_of r ps) a ∙ (sym (declarer_last s ps x) ∙ ap (declarer s) (sym e))
+
+-- ---- the scopes that steps leave
+
+left_last : (s : Scope) (ps : List Step) (x : Step) → left_by s (ps ++ x ∷ []) ≡ left_by s ps ++ end_of s ps ∷ []
+left_last s [] x = refl
+left_last s (p ∷ ps) x = ap (λ (ts : List Scope). s ∷ ts) (left_last p.to ps x)
+
+module _ (f : Scope → Bool) (s t : Scope) (ps qs : List Step) (x : Step) (same : t ≡ s) (split : qs ≡ ps ++ x ∷ []) where
+  left_split : list_all f (left_by s qs) ≡ list_all f (left_by t ps ++ end_of t ps ∷ [])
+  left_split =
+      ap (λ (r : Scope). list_all f (left_by r qs)) (sym same) ∙ (ap (λ (rs : List Step). list_all f (left_by t rs)) split ∙ ap (list_all f) (left_last t ps x))
+
+  pub left_apart : f (end_of t ps) ≡ false → list_all f (left_by s qs) ≡ false
+  left_apart e = left_split ∙ one_failed f (left_by t ps) (end_of t ps) e
+
+  pub left_along : f (end_of t ps) ≡ true → list_all f (left_by s qs) ≡ list_all f (left_by t ps)
+  left_along e = left_split ∙ all_passed f (left_by t ps) (end_of t ps) e
+
+pub left_none : (f : Scope → Bool) (s : Scope) (qs : List Step) → qs ≡ [] → list_all f (left_by s qs) ≡ true
+left_none f s qs e = ap (λ (rs : List Step). list_all f (left_by s rs)) e
+
+-- ---- the first step
+
+-- whether the first of these steps is an import on demand; where there is none, whether the one behind them is
+abbrev pub demand_from : Bool → List Step → Bool
+demand_from b [] = b
+demand_from b (p ∷ ps) = p.label == ODI
+
+pub demand_first : (ps : List Step) → is_on_demand ps ≡ demand_from false ps
+demand_first [] = refl
+demand_first (p ∷ ps) = refl
+
+demand_split : (a : Bool) (ps : List Step) (x : Step) → demand_from a (ps ++ x ∷ []) ≡ demand_from (x.label == ODI) ps
+demand_split a [] x = refl
+demand_split a (p ∷ ps) x = refl
+
+pub demand_last : (a : Bool) (ps qs : List Step) (x : Step) → qs ≡ ps ++ x ∷ [] → demand_from a qs ≡ demand_from (x.label == ODI) ps
+demand_last a ps qs x e = ap (demand_from a) e ∙ demand_split a ps x
+
+pub demand_none : (a : Bool) (qs : List Step) → qs ≡ [] → demand_from a qs ≡ a
+demand_none a qs e = ap (demand_from a) e

@@ -47,6 +47,7 @@ top_type_by l file t Protected = is_same_package l file t
 top_type_by l file t Package = is_same_package l file t
 top_type_by l file t Private = is_same_package l file t
 
+-- whether a type is accessible, by the type that declares it; one that none declares is a top-level type
 abbrev pub type_accessible_by : LayoutOf → ℕ → List Scope → Scope → Option Scope → Rule Bool
 type_accessible_by l file bodies t None = done (top_type_by l file t (access_of l t))
 type_accessible_by l file bodies t (Some d) = member_type_by l file bodies t d (access_of l t)
@@ -75,6 +76,7 @@ abbrev pub protected_elsewhere : LayoutOf → List Scope → Scope → Option Sc
 protected_elsewhere l bodies m through None = done false
 protected_elsewhere l bodies m through (Some d) = cond (is_constructor l m && is_some through) (done false) (some_body (body_fits l m d through) bodies)
 
+-- whether a member is accessible, by its access; a protected one is in its package, and elsewhere in bodies of subtypes
 abbrev pub member_accessible_by : LayoutOf → ℕ → List Scope → Scope → Option Scope → Access → Rule Bool
 member_accessible_by l file bodies m through Public = done true
 member_accessible_by l file bodies m through Private = done (is_same_top l bodies m)

@@ -191,6 +191,7 @@ WrittenTypesStayIn =
 abbrev pub FieldsStayIn : Type 0
 FieldsStayIn = (l : LayoutOf) (count : ℕ) (class : Scope) (n : NameId) → IsTypeScope l class → n.0 < count → StaysIn l count (MeansOnly (IsMemberScope l FIELD)) (field l class n)
 
+-- whatever the answers, the rule of the methods of a name in a type asks queries of names alone, and finds methods alone
 abbrev pub MethodsStayIn : Type 0
 MethodsStayIn = (l : LayoutOf) (count : ℕ) (class : Scope) (n : NameId) → IsTypeScope l class → n.0 < count → StaysIn l count (EndsOnly (IsMemberScope l METH)) (methods l class n)
 
@@ -210,6 +211,7 @@ SignaturesAskIn = (l : LayoutOf) (count : ℕ) (m : Scope) → IsListed l m → 
 abbrev pub CtorsAskIn : Type 0
 CtorsAskIn = (l : LayoutOf) (count : ℕ) (c : Scope) → IsTypeScope l c → AsksIn l count (λ (o : Option Scope). IfSome o (IsMemberScope l CTOR)) (ctor_of l c)
 
+-- whatever the answers, the rule of the supertypes of a type asks queries of the layout, and gives types of it
 abbrev pub SupersAskIn : Type 0
 SupersAskIn = (l : LayoutOf) (count : ℕ) (c : Scope) → IsTypeScope l c → AsksIn l count (AreTypes l) (supers_of l c)
 

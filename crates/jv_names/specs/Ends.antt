@@ -1,5 +1,5 @@
 -- What is read from an answer: the ends of the paths that count.
-use Rattle.std.specs.Prelude.{List, [], ◌∷◌, Bool, true, false, not, cond, ◌==◌, ◌&&◌, ◌||◌, map, fold}
+use Rattle.std.specs.Prelude.{List, [], ◌∷◌, Bool, true, false, not, cond, ◌==◌, ◌&&◌, ◌||◌, map, fold, Option, Some, None}
 use Rattle.std.specs.List.{filter, list_all, list_any}
 use Rattle.sg_base.specs.declared.scope.Scope.{Scope}
 use Rattle.sg_base.specs.declared.step.Step.{Step}
@@ -75,6 +75,11 @@ is_counted l c f = fits l f.path && (is_sought l c (place_of l (path_end f.path)
 -- the ends of the paths that count
 abbrev pub counted_ends : LayoutOf → Counts → List (Found JavaDatum) → List Scope
 counted_ends l c fs = map (λ f. path_end f.path) (filter (is_counted l c) fs)
+
+-- these ends behind another one, where there is one
+abbrev pub led_by : Option Scope → List Scope → List Scope
+led_by None es = es
+led_by (Some e) es = e ∷ es
 
 -- the meaning by the ends that were found
 abbrev pub meaning_of : List Scope → Meaning

@@ -32,45 +32,58 @@ abbrev pub ReadsOnlyItsQueries : {U : Type 0} → Rule U → Type 0
 ReadsOnlyItsQueries {U} r =
     (g h : GraphOf JavaDatum) (v : U) (qs : List (Query JavaPred)) → Gives (InGraph g) r v qs → AnswersAlike (InGraph g) (InGraph h) qs → Gives (InGraph h) r v qs
 
+-- the rule of what the name of a type means looks at a graph by its own queries alone
 abbrev pub TypeNamesReadOnlyTheirQueries : Type 0
 TypeNamesReadOnlyTheirQueries = (l : LayoutOf) (file : ℕ) (bodies : List Scope) (ids : List Ident) → ReadsOnlyItsQueries (type_name l file bodies ids)
 
+-- the rule of what the name of an import means looks at a graph by its own queries alone
 abbrev pub ImportsReadOnlyTheirQueries : Type 0
 ImportsReadOnlyTheirQueries = (l : LayoutOf) (all : Bool) (ids : List Ident) → ReadsOnlyItsQueries (import_name l all ids)
 
+-- the rule of whether a type is accessible looks at a graph by its own queries alone
 abbrev pub TypeAccessReadsOnlyItsQueries : Type 0
 TypeAccessReadsOnlyItsQueries = (l : LayoutOf) (file : ℕ) (bodies : List Scope) (t : Scope) → ReadsOnlyItsQueries (type_accessible l file bodies t)
 
+-- the rule of the field of a name in a type looks at a graph by its own queries alone
 abbrev pub FieldsReadOnlyTheirQueries : Type 0
 FieldsReadOnlyTheirQueries = (l : LayoutOf) (class : Scope) (n : NameId) → ReadsOnlyItsQueries (field l class n)
 
+-- the rule of the methods of a name in a type looks at a graph by its own queries alone
 abbrev pub MethodsReadOnlyTheirQueries : Type 0
 MethodsReadOnlyTheirQueries = (l : LayoutOf) (class : Scope) (n : NameId) → ReadsOnlyItsQueries (methods l class n)
 
+-- the rule of whether a member is accessible looks at a graph by its own queries alone
 abbrev pub MemberAccessReadsOnlyItsQueries : Type 0
 MemberAccessReadsOnlyItsQueries =
     (l : LayoutOf) (file : ℕ) (bodies : List Scope) (m : Scope) (through : Option Scope) → ReadsOnlyItsQueries (member_accessible l file bodies m through)
 
+-- the rule of a type that is written looks at a graph by its own queries alone
 abbrev pub WrittenTypesReadOnlyTheirQueries : Type 0
 WrittenTypesReadOnlyTheirQueries =
     (l : LayoutOf) (names : List (List ℕ)) (file : ℕ) (bodies : List Scope) (t : TypeTree) → ReadsOnlyItsQueries (written_type l names file bodies t)
 
 -- ---- what is read beside names
 
+-- the rule that reads the signature of a member looks at a graph by its own queries alone
 abbrev pub ReadSignaturesReadOnlyTheirQueries : Type 0
 ReadSignaturesReadOnlyTheirQueries = (l : LayoutOf) (m : Scope) → ReadsOnlyItsQueries (signature_of l m)
 
+-- the rule of the one constructor of a class looks at a graph by its own queries alone
 abbrev pub CtorsReadOnlyTheirQueries : Type 0
 CtorsReadOnlyTheirQueries = (l : LayoutOf) (c : Scope) → ReadsOnlyItsQueries (ctor_of l c)
 
+-- the rule of the supertypes of a type looks at a graph by its own queries alone
 abbrev pub SupersReadOnlyTheirQueries : Type 0
 SupersReadOnlyTheirQueries = (l : LayoutOf) (c : Scope) → ReadsOnlyItsQueries (supers_of l c)
 
+-- the rule of whether a result fits another one looks at a graph by its own queries alone
 abbrev pub ResultsReadOnlyTheirQueries : Type 0
 ResultsReadOnlyTheirQueries = (l : LayoutOf) (s t : Ty) → ReadsOnlyItsQueries (result_fits l s t)
 
+-- the rule of the superclass of a type, by the names that it extends, looks at a graph by its own queries alone
 abbrev pub SuperclassesReadOnlyTheirQueries : Type 0
 SuperclassesReadOnlyTheirQueries = (l : LayoutOf) (c : Scope) (ns : List (List Ident)) → ReadsOnlyItsQueries (superclass l c ns)
 
+-- the rule of whether there is an enclosing instance looks at a graph by its own queries alone
 abbrev pub InstancesReadOnlyTheirQueries : Type 0
 InstancesReadOnlyTheirQueries = (l : LayoutOf) (bodies : List Scope) (s : Scope) (o : Option Scope) → ReadsOnlyItsQueries (has_enclosing l bodies s o)

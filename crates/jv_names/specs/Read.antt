@@ -40,6 +40,7 @@ base_in l Null = Null
 base_in l Void = Void
 base_in l Bad = Bad
 
+-- a type with such a base, and with its brackets
 abbrev pub ty_in : LayoutOf → Ty → Ty
 ty_in l t = record { base = base_in l t.base; dims = t.dims }
 
@@ -117,9 +118,11 @@ one_ctor l [] = None
 one_ctor l (k ∷ []) = Some k
 one_ctor l (k ∷ m ∷ ks) = None
 
+-- the constructor of a class by an answer; where there are too many paths, none
 abbrev pub answer_ctor : LayoutOf → Answer JavaDatum → Option Scope
 answer_ctor l (Paths fs) = one_ctor l (counted_ends l Constructors fs)
 answer_ctor l TooMany = None
 
+-- the constructor of a class; where the answer is not one constructor, there is none
 unfoldable pub ctor_of : LayoutOf → Scope → Rule (Option Scope)
 ctor_of l c = ask (for_any CTORS c) (λ a. done (answer_ctor l a))

@@ -1,10 +1,10 @@
 //! What is read from an answer.
 
-ghost use Rattle.std.specs.Prelude.{◌≡◌, ◌&&◌, IfOk, [], fold};
+ghost use Rattle.std.specs.Prelude.{◌≡◌, ◌+◌, ◌<◌, ◌&&◌, IfOk, [], drop, fold, length};
 ghost use Rattle.std.specs.List.{list_any};
 ghost use Rattle.sg_base.specs.Scope.{is_scope, scope_cmp};
 ghost use Rattle.sg_state.specs.Held.{put};
-ghost use Rattle.jv_names.specs.Ends.{opens_to, is_on_demand, is_seen, is_sought, passes, is_counted, path_end, counted_ends, meaning_of, answer_meaning, answer_ends, has_end};
+ghost use Rattle.jv_names.specs.Ends.{opens_to, is_on_demand, is_seen, is_sought, passes, is_counted, path_end, counted_ends, led_by, meaning_of, answer_meaning, answer_ends, has_end};
 
 use crate::counts::Counts;
 use crate::ends::Ends;
@@ -12,8 +12,8 @@ use crate::inheriting::inherited;
 use crate::meaning::Meaning;
 use jv_instance::{Access, JavaDatum, labels};
 use jv_layout::{Layout, Place};
-use sg_base::{Path, Scope, ScopeSet, Step};
-use sg_query::{Answer, Found};
+use sg_base::{PathView, Scope, ScopeSet};
+use sg_query::{Answer, FoundPaths, FoundView};
 use std::alloc::{AllocError, Global};
 
 /// Whether a type may be imported on demand into a package, by its access.
@@ -29,20 +29,23 @@ fn opens_to(l: &Layout, access: Access, outer: Scope, t: Scope) -> bool
 }
 
 /// Whether the first step is an import on demand.
-fn is_on_demand(steps: &[Step]) -> bool
-    ensures { result ≡ is_on_demand steps.now }
+fn is_on_demand(path: &PathView<'_>) -> bool
+    ensures { result ≡ is_on_demand path.now.steps }
 {
-    match steps.first() {
-        Some(step) => step.label.number() == labels::ODI,
-        None => false,
+    let mut found = false;
+    let mut at = path.copy();
+    while let Some((before, step)) = at.split_last() {
+        found = step.label.number() == labels::ODI;
+        at = before;
     }
+    found
 }
 
 /// Whether a file sees the type at a path's end.
-fn is_seen(l: &Layout, path: &Path) -> bool
+fn is_seen(l: &Layout, path: &PathView<'_>) -> bool
     ensures { result ≡ is_seen l.now path.now }
 {
-    if !is_on_demand(path.steps()) {
+    if !is_on_demand(path) {
         return true;
     }
     let end = path.end();
@@ -65,7 +68,7 @@ fn is_sought(l: &Layout, counts: Counts, place: Place) -> bool
 }
 
 /// Whether a path is inherited or seen, where that is asked.
-fn passes(l: &Layout, counts: Counts, path: &Path) -> bool
+fn passes(l: &Layout, counts: Counts, path: &PathView<'_>) -> bool
     ensures { result ≡ passes l.now counts path.now }
 {
     match counts {
@@ -81,21 +84,38 @@ fn passes(l: &Layout, counts: Counts, path: &Path) -> bool
 }
 
 /// Whether a found path counts.
-pub fn is_counted(l: &Layout, counts: Counts, found: &Found<JavaDatum>) -> bool
+fn is_counted(l: &Layout, counts: Counts, found: &FoundView<'_, JavaDatum>) -> bool
     ensures { result ≡ is_counted l.now counts found.now }
 {
     l.fits(&found.path)
         && (is_sought(l, counts, l.place(found.path.end())) && passes(l, counts, &found.path))
 }
 
+/// The end of the path at an index, where that path counts.
+pub fn counted_end(
+    l: &Layout,
+    counts: Counts,
+    paths: &FoundPaths<JavaDatum>,
+    k: usize,
+) -> Option<Scope>
+    requires { k < length paths.now }
+    ensures { counted_ends l.now counts (drop k paths.now) ≡ led_by result (counted_ends l.now counts (drop (k + 1) paths.now)) }
+{
+    let found = paths.at(k);
+    if is_counted(l, counts, &found) {
+        Some(found.path.end())
+    } else {
+        None
+    }
+}
+
 /// The one end of the paths that count.
-fn sole_end(l: &Layout, counts: Counts, paths: &[Found<JavaDatum>]) -> Meaning
+fn sole_end(l: &Layout, counts: Counts, paths: &FoundPaths<JavaDatum>) -> Meaning
     ensures { result ≡ meaning_of (counted_ends l.now counts paths.now) }
 {
     let mut first = None;
-    for found in paths {
-        if is_counted(l, counts, found) {
-            let end = found.path.end();
+    for k in 0..paths.len() {
+        if let Some(end) = counted_end(l, counts, paths, k) {
             match first {
                 None => first = Some(end),
                 Some(e) => {
@@ -117,7 +137,7 @@ pub fn answer_meaning(l: &Layout, counts: Counts, answer: &Answer<JavaDatum>) ->
     ensures { result ≡ answer_meaning l.now counts answer.now }
 {
     match answer {
-        Answer::Paths(paths) => sole_end(l, counts, paths.as_slice()),
+        Answer::Paths(paths) => sole_end(l, counts, paths),
         Answer::TooMany => Meaning::TooMany,
     }
 }
@@ -127,14 +147,14 @@ fn ends_of(
     alloc: Global,
     l: &Layout,
     counts: Counts,
-    paths: &[Found<JavaDatum>],
+    paths: &FoundPaths<JavaDatum>,
 ) -> Result<ScopeSet, AllocError>
     ensures { IfOk result (λ ends. ends ≡ fold (put scope_cmp) [] (counted_ends l.now counts paths.now)) }
 {
     let mut ends = ScopeSet::new(alloc);
-    for found in paths {
-        if is_counted(l, counts, found) {
-            ends.insert(found.path.end())?;
+    for k in 0..paths.len() {
+        if let Some(end) = counted_end(l, counts, paths, k) {
+            ends.insert(end)?;
         }
     }
     Ok(ends)
@@ -150,18 +170,20 @@ pub fn answer_ends(
     ensures { IfOk result (λ ends. ends ≡ answer_ends l.now counts answer.now) }
 {
     match answer {
-        Answer::Paths(paths) => Ok(Ends::Scopes(ends_of(alloc, l, counts, paths.as_slice())?)),
+        Answer::Paths(paths) => Ok(Ends::Scopes(ends_of(alloc, l, counts, paths)?)),
         Answer::TooMany => Ok(Ends::TooMany),
     }
 }
 
 /// Whether a scope is the end of a path that counts.
-fn some_end(l: &Layout, counts: Counts, scope: Scope, paths: &[Found<JavaDatum>]) -> bool
+fn some_end(l: &Layout, counts: Counts, scope: Scope, paths: &FoundPaths<JavaDatum>) -> bool
     ensures { result ≡ list_any (λ f. is_counted l.now counts f && is_scope (path_end f.path) scope) paths.now }
 {
-    for found in paths {
-        if is_counted(l, counts, found) && found.path.end() == scope {
-            return true;
+    for k in 0..paths.len() {
+        if let Some(end) = counted_end(l, counts, paths, k) {
+            if end == scope {
+                return true;
+            }
         }
     }
     false
@@ -172,7 +194,7 @@ pub fn has_end(l: &Layout, counts: Counts, scope: Scope, answer: &Answer<JavaDat
     ensures { result ≡ has_end l.now counts scope answer.now }
 {
     match answer {
-        Answer::Paths(paths) => some_end(l, counts, scope, paths.as_slice()),
+        Answer::Paths(paths) => some_end(l, counts, scope, paths),
         Answer::TooMany => false,
     }
 }

@@ -6,42 +6,43 @@ ghost use Rattle.jv_names.specs.Inherited.{declarer, has_no_super, stays_in_pack
 
 use jv_instance::{Access, labels};
 use jv_layout::Layout;
-use sg_base::{Path, Scope, Step};
+use sg_base::{PathView, Scope};
 
 /// The scope that the last step leaves.
-fn declarer(start: Scope, steps: &[Step]) -> Scope
-    ensures { result ≡ declarer start steps.now }
+fn declarer(path: &PathView<'_>) -> Scope
+    ensures { result ≡ declarer path.now.start path.now.steps }
 {
-    if steps.len() < 2 {
-        start
-    } else {
-        steps[steps.len() - 2].to
+    match path.split_last() {
+        None => path.start(),
+        Some((before, _)) => before.end(),
     }
 }
 
 /// Whether no step goes to a supertype.
-fn has_no_super(steps: &[Step]) -> bool
-    ensures { result ≡ has_no_super steps.now }
+fn has_no_super(path: &PathView<'_>) -> bool
+    ensures { result ≡ has_no_super path.now.steps }
 {
-    for step in steps {
+    let mut at = path.copy();
+    while let Some((before, step)) = at.split_last() {
         if step.label.number() == labels::EXT {
             return false;
         }
+        at = before;
     }
     true
 }
 
 /// Whether each scope that the steps leave lies in the package of the one that declares the member.
-fn stays_in_package(l: &Layout, start: Scope, steps: &[Step]) -> bool
-    ensures { result ≡ stays_in_package l.now start steps.now }
+fn stays_in_package(l: &Layout, path: &PathView<'_>) -> bool
+    ensures { result ≡ stays_in_package l.now path.now.start path.now.steps }
 {
-    let home = l.package_of(declarer(start, steps));
-    let mut at = start;
-    for step in steps {
-        if l.package_of(at) != home {
+    let home = l.package_of(declarer(path));
+    let mut at = path.copy();
+    while let Some((before, _)) = at.split_last() {
+        if l.package_of(before.end()) != home {
             return false;
         }
-        at = step.to;
+        at = before;
     }
     true
 }
@@ -49,13 +50,13 @@ fn stays_in_package(l: &Layout, start: Scope, steps: &[Step]) -> bool
 /// Whether the member at the path's end is a member of the type at its start (JLS 8.2): it is public or protected; or
 /// private and declared in that type itself; or of package access, and each type on the path lies in the package of the one
 /// that declares it. It takes time in the length of the path, and no memory.
-pub fn inherited(l: &Layout, path: &Path) -> bool
+pub fn inherited(l: &Layout, path: &PathView<'_>) -> bool
     ensures { result ≡ is_inherited l.now path.now }
 {
     match l.access(path.end()) {
         Access::Public => true,
         Access::Protected => true,
-        Access::Package => stays_in_package(l, path.start(), path.steps()),
-        Access::Private => has_no_super(path.steps()),
+        Access::Package => stays_in_package(l, path),
+        Access::Private => has_no_super(path),
     }
 }

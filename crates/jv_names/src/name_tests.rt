@@ -13,8 +13,8 @@ use crate::{
 use jv_instance::{JavaDatum, JavaPred, TypeBase, labels};
 use jv_layout::Layout;
 use jv_tree::{Base, Import, Name, NameId, TypeRef};
-use sg_base::{Label, Path, Step};
-use sg_query::{Answer, Found, FoundPaths, Query};
+use sg_base::{Label, Step};
+use sg_query::{Answer, FoundPaths, FoundTree, Query};
 use sg_reading::Known;
 use std::alloc::Global;
 use std::fmt::Write;
@@ -314,21 +314,20 @@ fn methods_told(
     Ok(text)
 }
 
-// A path from `A` by a field's label.
-fn path_to(alloc: Global, serial: u32) -> Result<Found<JavaDatum>, Fail> {
-    let step = Step {
+// The step to a field.
+fn field_step(serial: u32) -> Step {
+    Step {
         label: Label::new(labels::FIELD),
         to: scope(serial),
-    };
-    let path = Path::new(scope(12), vec![in alloc; step]?);
-    let datum = JavaDatum::Member { name: NameId(X) };
-    Ok(Found { path, datum })
+    }
 }
 
+// Paths from `A` by a field's label.
 fn answer_of(alloc: Global, ends: &[u32]) -> Result<Answer<JavaDatum>, Fail> {
-    let mut found = Vec::new(alloc);
+    let mut found = FoundTree::new(alloc, scope(12));
     for serial in ends {
-        found.push(path_to(alloc, *serial)?)?;
+        let datum = JavaDatum::Member { name: NameId(X) };
+        found.add(&[field_step(*serial)], datum)?;
     }
     Ok(Answer::Paths(FoundPaths::new(alloc, found)?))
 }

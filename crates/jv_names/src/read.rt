@@ -9,7 +9,7 @@ ghost use Rattle.jv_names.specs.Ends.{counted_ends};
 ghost use Rattle.jv_names.specs.Replies.{reply_to};
 ghost use Rattle.jv_names.specs.Read.{base_in, ty_in, signature_in, one_signature, answer_signature, signature_of, one_ctor, answer_ctor, ctor_of};
 
-use crate::answers::is_counted;
+use crate::answers::counted_end;
 use crate::counts::Counts;
 use crate::kinds;
 use crate::oracle::Oracle;
@@ -18,7 +18,7 @@ use crate::signature_types::ReadSignature;
 use jv_instance::{JavaDatum, JavaPred, Ty, TypeBase, TypeList};
 use jv_layout::{Layout, Place};
 use sg_base::Scope;
-use sg_query::{Answer, Found, Query};
+use sg_query::{Answer, FoundPaths, Query};
 use sg_reading::Stop;
 use std::alloc::{AllocError, Global};
 
@@ -81,15 +81,16 @@ fn signature_in(
 fn one_signature(
     alloc: Global,
     l: &Layout,
-    paths: &[Found<JavaDatum>],
+    paths: &FoundPaths<JavaDatum>,
 ) -> Result<Option<ReadSignature>, AllocError>
     ensures { IfOk result (λ found. found ≡ one_signature l.now (filter (λ f. fits l.now f.path) paths.now)) }
 {
     let mut first = None;
-    for found in paths {
+    for k in 0..paths.len() {
+        let found = paths.at(k);
         if l.fits(&found.path) {
             match first {
-                None => first = Some(&found.datum),
+                None => first = Some(found.datum),
                 Some(_) => return Ok(None),
             }
         }
@@ -109,7 +110,7 @@ fn answer_signature(
     ensures { IfOk result (λ found. found ≡ answer_signature l.now answer.now) }
 {
     match answer {
-        Answer::Paths(paths) => one_signature(alloc, l, paths.as_slice()),
+        Answer::Paths(paths) => one_signature(alloc, l, paths),
         Answer::TooMany => Ok(None),
     }
 }
@@ -131,14 +132,14 @@ pub fn read_signature_of(
 }
 
 /// The constructor by the paths to constructors, where that is one.
-fn one_ctor(l: &Layout, paths: &[Found<JavaDatum>]) -> Option<Scope>
+fn one_ctor(l: &Layout, paths: &FoundPaths<JavaDatum>) -> Option<Scope>
     ensures { result ≡ one_ctor l.now (counted_ends l.now Constructors paths.now) }
 {
     let mut first = None;
-    for found in paths {
-        if is_counted(l, Counts::Constructors, found) {
+    for k in 0..paths.len() {
+        if let Some(end) = counted_end(l, Counts::Constructors, paths, k) {
             match first {
-                None => first = Some(found.path.end()),
+                None => first = Some(end),
                 Some(_) => return None,
             }
         }
@@ -151,7 +152,7 @@ fn answer_ctor(l: &Layout, answer: &Answer<JavaDatum>) -> Option<Scope>
     ensures { result ≡ answer_ctor l.now answer.now }
 {
     match answer {
-        Answer::Paths(paths) => one_ctor(l, paths.as_slice()),
+        Answer::Paths(paths) => one_ctor(l, paths),
         Answer::TooMany => None,
     }
 }

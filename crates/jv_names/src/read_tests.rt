@@ -11,8 +11,8 @@ use crate::{
 };
 use jv_instance::{JavaDatum, JavaPred, Ty, TypeBase, TypeList, labels};
 use jv_tree::{Name, NameId};
-use sg_base::{Label, Path, Scope, Step};
-use sg_query::{Answer, Found, FoundPaths, Query};
+use sg_base::{Label, Scope, Step};
+use sg_query::{Answer, FoundPaths, FoundTree, Query};
 use sg_reading::Stop;
 use std::alloc::Global;
 use std::fmt::Write;
@@ -165,19 +165,18 @@ fn answer_of(
     ends: &[u32],
     params: &[Ty],
 ) -> Result<Answer<JavaDatum>, Fail> {
-    let mut found = Vec::new(alloc);
+    let mut found = FoundTree::new(alloc, scope(from));
     for serial in ends {
         let step = Step {
             label: Label::new(label % 16),
             to: scope(*serial),
         };
-        let path = Path::new(scope(from), vec![in alloc; step]?);
         let datum = JavaDatum::Signature {
             name: NameId(Y),
             result: class_type(12, 1),
             params: TypeList::new(Vec::from_slice(alloc, params)?),
         };
-        found.push(Found { path, datum })?;
+        found.add(&[step], datum)?;
     }
     Ok(Answer::Paths(FoundPaths::new(alloc, found)?))
 }

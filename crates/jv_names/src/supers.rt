@@ -7,7 +7,7 @@ ghost use Rattle.jv_names.specs.Ends.{counted_ends};
 ghost use Rattle.jv_names.specs.Read.{answer_supers, with_object, supers_of};
 ghost use Rattle.jv_names.specs.Replies.{reply_to};
 
-use crate::answers::is_counted;
+use crate::answers::counted_end;
 use crate::counts::Counts;
 use crate::kinds;
 use crate::oracle::Oracle;
@@ -16,7 +16,7 @@ use crate::scope_list::ScopeList;
 use jv_instance::{JavaDatum, JavaPred};
 use jv_layout::Layout;
 use sg_base::Scope;
-use sg_query::{Answer, Found, Query};
+use sg_query::{Answer, FoundPaths, Query};
 use sg_reading::Stop;
 use std::alloc::{AllocError, Global};
 
@@ -24,14 +24,14 @@ use std::alloc::{AllocError, Global};
 fn path_supers(
     alloc: Global,
     l: &Layout,
-    paths: &[Found<JavaDatum>],
+    paths: &FoundPaths<JavaDatum>,
 ) -> Result<ScopeList, AllocError>
     ensures { IfOk result (λ supers. supers ≡ counted_ends l.now Supertypes paths.now) }
 {
     let mut supers = ScopeList::empty(alloc);
-    for found in paths {
-        if is_counted(l, Counts::Supertypes, found) {
-            supers.push(found.path.end())?;
+    for k in 0..paths.len() {
+        if let Some(end) = counted_end(l, Counts::Supertypes, paths, k) {
+            supers.push(end)?;
         }
     }
     Ok(supers)
@@ -46,7 +46,7 @@ fn answer_supers(
     ensures { IfOk result (λ supers. supers ≡ answer_supers l.now answer.now) }
 {
     match answer {
-        Answer::Paths(paths) => path_supers(alloc, l, paths.as_slice()),
+        Answer::Paths(paths) => path_supers(alloc, l, paths),
         Answer::TooMany => Ok(ScopeList::empty(alloc)),
     }
 }

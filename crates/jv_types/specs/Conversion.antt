@@ -36,9 +36,11 @@ width Null = 0
 width Void = 0
 width Bad = 0
 
+-- a numeric type: `char`, `int` or `long`, without brackets
 abbrev pub is_numeric : Ty → Bool
 is_numeric t = (t.dims == 0) && nat_lt 0 (width t.base)
 
+-- the base is that of `null`
 abbrev pub is_null_base : TypeBase → Bool
 is_null_base Null = true
 is_null_base Boolean = false
@@ -55,6 +57,7 @@ is_null t = (t.dims == 0) && is_null_base t.base
 
 -- ---- equal types
 
+-- two bases are the same
 abbrev pub is_base : TypeBase → TypeBase → Bool
 is_base Boolean Boolean = true
 is_base Char Char = true
@@ -66,6 +69,7 @@ is_base Void Void = true
 is_base Bad Bad = true
 is_base a b = false
 
+-- two types are the same: they have the same base, and as many brackets
 abbrev pub is_type : Ty → Ty → Bool
 is_type a b = is_base a.base b.base && (a.dims == b.dims)
 

@@ -20,6 +20,7 @@ CastableIsSymmetric = (object : Scope) (a b : SideOf) → are_castable object a 
 abbrev pub PromotionIsCommutative : Type 0
 PromotionIsCommutative = (a b : Ty) → promoted a b ≡ promoted b a
 
+-- how numeric operands are grouped does not matter
 abbrev pub PromotionIsAssociative : Type 0
 PromotionIsAssociative = (a b c : Ty) → promoted (promoted a b) c ≡ promoted a (promoted b c)
 

@@ -9,15 +9,19 @@ use Rattle.jv_types.specs.Conversion.{SideOf, is_numeric, is_reference, is_null,
 
 -- ---- types without brackets
 
+-- the type with this base and without brackets
 abbrev pub plain : TypeBase → Ty
 plain b = record { base = b; dims = 0 }
 
+-- the type `boolean`
 abbrev pub boolean_type : Ty
 boolean_type = plain Boolean
 
+-- the bad type
 abbrev pub bad_type : Ty
 bad_type = plain Bad
 
+-- the base is `boolean`
 abbrev pub is_boolean_base : TypeBase → Bool
 is_boolean_base Boolean = true
 is_boolean_base Char = false
@@ -28,9 +32,11 @@ is_boolean_base Null = false
 is_boolean_base Void = false
 is_boolean_base Bad = false
 
+-- the type `boolean`, without brackets
 abbrev pub is_boolean : Ty → Bool
 is_boolean t = (t.dims == 0) && is_boolean_base t.base
 
+-- the base is `void`
 abbrev pub is_void_base : TypeBase → Bool
 is_void_base Void = true
 is_void_base Boolean = false
@@ -41,6 +47,7 @@ is_void_base (Class s) = false
 is_void_base Null = false
 is_void_base Bad = false
 
+-- the type `void`, without brackets
 abbrev pub is_void : Ty → Bool
 is_void t = (t.dims == 0) && is_void_base t.base
 
@@ -106,9 +113,11 @@ is_logical op = (op == 24) || (op == 25)
 abbrev pub are_numeric : Ty → Ty → Bool
 are_numeric a b = is_numeric a && is_numeric b
 
+-- two boolean operands
 abbrev pub are_boolean : Ty → Ty → Bool
 are_boolean a b = is_boolean a && is_boolean b
 
+-- a reference type, or the type of `null`
 abbrev pub is_reference_or_null : Ty → Bool
 is_reference_or_null t = is_reference t || is_null t
 
@@ -121,9 +130,11 @@ are_comparable object a b =
 abbrev pub are_joined : Scope → Ty → Ty → Bool
 are_joined string a b = (is_string string a && not (is_void b)) || (is_string string b && not (is_void a))
 
+-- the type of `+`: `String` where it joins one with something, and else the promoted type of two numeric operands
 abbrev pub sum_type : Scope → Ty → Ty → Option Ty
 sum_type string a b = cond (are_joined string a b) (Some (plain (Class string))) (where_true (are_numeric a b) (promoted a b))
 
+-- the type of `&`, `^` or `|`: boolean for two boolean operands, and else the promoted type of two numeric ones
 abbrev pub bitwise_type : Ty → Ty → Option Ty
 bitwise_type a b = cond (are_boolean a b) (Some boolean_type) (where_true (are_numeric a b) (promoted a b))
 

@@ -37,6 +37,7 @@ own_body l names c extends blanks s (own_method m) = method_rule l names c exten
 own_body l names c extends blanks s (own_ctor k) = ctor_rule l names c extends blanks s k
 own_body l names c extends blanks s (default_ctor name) = done []
 
+-- the diagnostics of the body or the initializer of the member with a number, which a type with these blank fields declares
 abbrev pub member_body : FolderOf → ℕ → List Scope → ℕ → Rule (List DiagOf)
 member_body w t blanks m =
     own_body w.layout w.names (type_scope w.layout t) (extends_of (decl_at w.files t)) blanks (member_scope w.layout m) (own_at w.files m)

@@ -20,6 +20,7 @@ abbrev mutual
   pub decl_owns : TypeDeclTree → List OwnMember
   decl_owns (type_decl name ms i es is xs) = default_own name i xs ++ body_owns xs
 
+  -- the members of a body, in the order of the text, and in place of each declaration that nests in it its members
   pub body_owns : MemberTrees → List OwnMember
   body_owns no_members = []
   body_owns (members (nested d) xs) = decl_owns d ++ body_owns xs
@@ -37,6 +38,7 @@ own_at units m = slice_index_or (all_owns units) m no_own
 
 -- ---- the row of a member in the layout
 
+-- which kind a member is of
 abbrev pub own_kind : OwnMember → MemberKind
 own_kind (own_field ms t v) = Field
 own_kind (own_method m) = Method
@@ -50,6 +52,7 @@ own_title class (own_method m) = m.name.id
 own_title class (own_ctor c) = class
 own_title class (default_ctor name) = name.id
 
+-- the modifiers of a member; a default constructor has none
 abbrev pub own_modifiers : OwnMember → Modifiers
 own_modifiers (own_field ms t v) = modifiers_of ms
 own_modifiers (own_method m) = modifiers_of m.mods

@@ -9,6 +9,7 @@ abbrev mutual
   pub paths_in : List ℕ → TypeDeclTree → List (List ℕ)
   paths_in p (type_decl name ms i es is xs) = p ∷ body_paths p 0 xs
 
+  -- the places of the declarations in a body, and of those that nest in them, behind the place of the body, from a member on
   pub body_paths : List ℕ → ℕ → MemberTrees → List (List ℕ)
   body_paths p i no_members = []
   body_paths p i (members (nested d) xs) = paths_in (p ++ i ∷ []) d ++ body_paths p (i + 1) xs

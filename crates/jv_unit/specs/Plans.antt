@@ -32,6 +32,7 @@ use Rattle.jv_unit.specs.MemberBodies.{member_body, type_blanks}
 use Rattle.jv_unit.specs.Owns.{own_at}
 use Rattle.jv_unit.specs.Trees.{decl_at, unit_at, name_of, mods_of, extends_of, implements_of}
 
+-- a plan of one of Java's units, which comes to diagnostics
 abbrev pub JavaPlan : Type 0
 JavaPlan = Plan (List DiagOf) JavaDatum JavaPred
 
@@ -77,6 +78,7 @@ member_signature w t m = signature_rule w.layout w.names (type_scope w.layout t)
 abbrev pub signature_datum : FolderOf → ℕ → ℕ → Rule JavaDatum
 signature_datum w t m = and_then (member_signature w t m) (λ s. done s.datum)
 
+-- the stage of a member: the datum of its signature is set at the signature's scope
 abbrev pub signature_stage : FolderOf → ℕ → ℕ → Stage JavaDatum JavaPred
 signature_stage w t m = datum_stage (signature_of_member w.layout m) (signature_datum w t m)
 
@@ -163,9 +165,11 @@ unit_stages w u = cond (nat_lt u (length w.layout.files)) (file_stages w u) (typ
 abbrev pub beyond_prelude : ℕ → Rule (List DiagOf) → Rule (List DiagOf)
 beyond_prelude file r = cond (nat_lt file 2) (done []) r
 
+-- the diagnostics of the imports of a file; none for a file of the prelude
 abbrev pub own_file_ending : FolderOf → ℕ → Rule (List DiagOf)
 own_file_ending w f = beyond_prelude f (file_ending w f)
 
+-- the diagnostics of a type; none for a type of a file of the prelude
 abbrev pub own_type_ending : FolderOf → ℕ → Rule (List DiagOf)
 own_type_ending w t = beyond_prelude (file_of w.layout (type_scope w.layout t)) (type_ending w t)
 

@@ -33,6 +33,7 @@ use Rattle.jv_unit.specs.Owns.{own_at}
 use Rattle.jv_unit.specs.Plans.{all_checks, behind_header, check_rule, type_ending, with_checks}
 use Rattle.jv_unit.specs.Trees.{decl_at, extends_of, implements_of, unit_at}
 
+-- what is replied to each query: its answer, where that has come
 abbrev pub Replies : Type 0
 Replies = Query JavaPred → Option (Answer JavaDatum)
 
@@ -43,6 +44,7 @@ own_left l names c extends blanks s (own_method m) p = method_left l names c ext
 own_left l names c extends blanks s (own_ctor k) p = ctor_left l names c extends blanks s k p
 own_left l names c extends blanks s (default_ctor name) p = done []
 
+-- what is left of the body or the initializer of the member with a number, which a type with these blank fields declares
 abbrev pub member_left : FolderOf → ℕ → List Scope → ℕ → BodyProgress → Rule (List DiagOf)
 member_left w t blanks m p =
     own_left w.layout w.names (type_scope w.layout t) (extends_of (decl_at w.files t)) blanks (member_scope w.layout m) (own_at w.files m) p

@@ -22,6 +22,7 @@ use Rattle.jv_unit.specs.Kept.{folder_of, IsWhole}
 use Rattle.jv_unit.specs.Plans.{JavaPlan, java_plan}
 use Rattle.jv_unit.specs.Script.{ScriptOf}
 
+-- one of Java's units: a follower of its script, which comes to diagnostics
 abbrev pub JavaUnit : Type 0
 JavaUnit = Follower ScriptOf Java (List DiagOf) JavaDatum JavaPred
 

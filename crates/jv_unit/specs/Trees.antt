@@ -9,6 +9,7 @@ abbrev mutual
   pub decls_in : TypeDeclTree → List TypeDeclTree
   decls_in (type_decl name ms i es is xs) = type_decl name ms i es is xs ∷ body_decls xs
 
+  -- the declarations in a body and those that nest in them, in the order of their types
   pub body_decls : MemberTrees → List TypeDeclTree
   body_decls no_members = []
   body_decls (members (nested d) xs) = decls_in d ++ body_decls xs
@@ -32,6 +33,7 @@ decl_at units t = slice_index_or (all_decls units) t no_decl
 abbrev pub no_unit : UnitTree
 no_unit = record { package_name = None; imports = []; types = [] }
 
+-- the file with a number; where there is none, the one that stands for none
 abbrev pub unit_at : List UnitTree → ℕ → UnitTree
 unit_at units f = slice_index_or units f no_unit
 
@@ -39,14 +41,18 @@ unit_at units f = slice_index_or units f no_unit
 abbrev pub name_of : TypeDeclTree → Ident
 name_of (type_decl name ms i es is xs) = name
 
+-- the modifiers of a declaration
 abbrev pub mods_of : TypeDeclTree → List ℕ
 mods_of (type_decl name ms i es is xs) = ms
 
+-- the names that a declaration extends
 abbrev pub extends_of : TypeDeclTree → List (List Ident)
 extends_of (type_decl name ms i es is xs) = es
 
+-- the names that a declaration implements
 abbrev pub implements_of : TypeDeclTree → List (List Ident)
 implements_of (type_decl name ms i es is xs) = is
 
+-- whether a declaration is one of an interface
 abbrev pub is_interface : TypeDeclTree → Bool
 is_interface (type_decl name ms i es is xs) = i

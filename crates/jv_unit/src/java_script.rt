@@ -69,7 +69,7 @@ impl JavaScript {
 
 impl Script for JavaScript {
     ghost use Rattle.std.specs.Prelude.{◌≡◌, None, IfOk, OnErr};
-    ghost use Rattle.sg_script.specs.Script.{AddsReply};
+    ghost use Rattle.sg_reading.specs.Replies.{AddsReply};
     ghost use Rattle.jv_names.specs.Replies.{reply_to};
     ghost use Rattle.jv_unit.specs.Scripts.{plan_of, IsUnit, PutsReply};
 

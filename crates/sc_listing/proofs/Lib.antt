@@ -1,3 +1,4 @@
+pub mod FoundTexts
 mod Rows
 mod Looping
 mod Hearing

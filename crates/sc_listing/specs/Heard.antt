@@ -18,12 +18,15 @@ use Rattle.sc_listing.specs.Answers.{JavaPast, IsToldLine}
 use Rattle.sc_listing.specs.Questions.{question_line}
 use Rattle.sc_listing.specs.Titles.{ListedOf}
 
+-- an operation that a checker of a folder gives
 abbrev pub JavaOp : Type 0
 JavaOp = Op Java (List DiagOf) JavaDatum JavaPred
 
+-- a reply that a checker of a folder is told
 abbrev pub JavaReply : Type 0
 JavaReply = Reply Java JavaDatum JavaPred
 
+-- what a checker of a folder gave and was told
 abbrev pub JavaTrace : Type 0
 JavaTrace = Trace Java (List DiagOf) JavaDatum JavaPred
 

@@ -23,9 +23,11 @@ abbrev pub kind_names : List (List ℕ)
 kind_names =
     codes "SUBPKG" ∷ codes "OWNTYPE" ∷ codes "MEMTYPE" ∷ codes "FILETYPE" ∷ codes "FIELDS" ∷ codes "METHODS" ∷ codes "ABOVE" ∷ codes "CTORS" ∷ codes "SIG" ∷ codes "SUPERS" ∷ []
 
+-- the name of the label with this number, and nothing where there is none
 abbrev pub label_name : ℕ → List ℕ
 label_name l = slice_index_or label_names l []
 
+-- the name of the kind of queries with this number, and nothing where there is none
 abbrev pub kind_name : ℕ → List ℕ
 kind_name k = slice_index_or kind_names k []
 

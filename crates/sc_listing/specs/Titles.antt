@@ -36,6 +36,7 @@ no_file = record { path = []; bytes = [] }
 abbrev pub path_of : List FileOf → ℕ → List ℕ
 path_of files f = cond (nat_lt f 2) [] (slice_index_or files (f - 2) no_file).path
 
+-- how a scope is printed, by what it is: a file by its path, and all else by its title
 abbrev pub title_by : ListedOf → Scope → Place → List ℕ
 title_by w s (File f) = path_of w.files f
 title_by w s Outside = title_of w.layout w.names s

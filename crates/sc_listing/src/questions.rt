@@ -1,6 +1,6 @@
 //! Questions and their answers as lines.
 
-ghost use Rattle.std.specs.Prelude.{◌≡◌, ◌++◌, IfOk, OnOk, codes};
+ghost use Rattle.std.specs.Prelude.{◌≡◌, ◌++◌, IfOk, OnOk, codes, drop};
 ghost use Rattle.std.specs.List.{flat_map};
 ghost use Rattle.std.specs.String.{string_bytes};
 ghost use Rattle.sc_listing.specs.Listed.{listed_of};
@@ -12,7 +12,7 @@ use crate::words::{kind_name, label_name};
 use jv_instance::{JavaDatum, JavaPred};
 use jv_layout::text_of;
 use sg_base::{Path, Step};
-use sg_query::{Answer, Found, Query};
+use sg_query::{Answer, FoundPaths, FoundView, Query};
 use std::alloc::{AllocError, Global};
 
 /// Adds what is sought.
@@ -56,18 +56,32 @@ fn push_path(
     push_steps(alloc, w, text, path.steps())
 }
 
-/// Adds a semicolon, a blank and a path for each path that was found.
+/// Adds a path that was found, of which it makes one of its own.
+fn push_found(
+    alloc: Global,
+    w: &Listed<'_>,
+    text: &mut String,
+    found: &FoundView<'_, JavaDatum>,
+) -> Result<(), AllocError>
+    ensures { OnOk result (string_bytes text.new ≡ string_bytes text.old ++ path_text (listed_of w.now) found.now.path) }
+{
+    let path = found.path.path(alloc)?;
+    push_path(alloc, w, text, &path)
+}
+
+/// Adds a semicolon, a blank and a path for each path that was found behind the first.
 fn push_further(
     alloc: Global,
     w: &Listed<'_>,
     text: &mut String,
-    found: &[Found<JavaDatum>],
+    found: &FoundPaths<JavaDatum>,
 ) -> Result<(), AllocError>
-    ensures { OnOk result (string_bytes text.new ≡ string_bytes text.old ++ flat_map (λ f. codes "; " ++ path_text (listed_of w.now) f.path) found.now) }
+    ensures { OnOk result (string_bytes text.new ≡ string_bytes text.old ++ flat_map (λ f. codes "; " ++ path_text (listed_of w.now) f.path) (drop 1 found.now)) }
 {
-    for one in found {
+    for k in 1..found.len() {
+        let one = found.at(k);
         text.push_str("; ")?;
-        push_path(alloc, w, text, &one.path)?;
+        push_found(alloc, w, text, &one)?;
     }
     Ok(())
 }
@@ -77,17 +91,16 @@ fn push_paths(
     alloc: Global,
     w: &Listed<'_>,
     text: &mut String,
-    found: &[Found<JavaDatum>],
+    found: &FoundPaths<JavaDatum>,
 ) -> Result<(), AllocError>
     ensures { OnOk result (string_bytes text.new ≡ string_bytes text.old ++ paths_text (listed_of w.now) found.now) }
 {
-    match found.split_first() {
-        None => text.push_str("-"),
-        Some((first, rest)) => {
-            push_path(alloc, w, text, &first.path)?;
-            push_further(alloc, w, text, rest)
-        }
+    if found.len() == 0 {
+        return text.push_str("-");
     }
+    let first = found.at(0);
+    push_found(alloc, w, text, &first)?;
+    push_further(alloc, w, text, found)
 }
 
 /// Adds an answer.
@@ -100,7 +113,7 @@ fn push_answer(
     ensures { OnOk result (string_bytes text.new ≡ string_bytes text.old ++ answer_text (listed_of w.now) answer.now) }
 {
     match answer {
-        Answer::Paths(paths) => push_paths(alloc, w, text, paths.as_slice()),
+        Answer::Paths(paths) => push_paths(alloc, w, text, paths),
         Answer::TooMany => text.push_str("*"),
     }
 }

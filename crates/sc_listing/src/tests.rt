@@ -7,8 +7,8 @@ use crate::{Listed, answers_text, graph_text};
 use jv_diag::DiagList;
 use jv_instance::{Java, JavaDatum, JavaPred, labels};
 use jv_tree::NameId;
-use sg_base::{Graph, Label, Path, Scope, Step};
-use sg_query::{Answer, Found, FoundPaths, Query};
+use sg_base::{Graph, Label, Scope, Step};
+use sg_query::{Answer, FoundPaths, FoundTree, Query};
 use sg_unit::{Entry, Op, Reply};
 use std::alloc::{AllocError, Global};
 use std::test::Fail;
@@ -162,8 +162,12 @@ fn take(log: &mut Log, unit: u32, answer: Answer<JavaDatum>) -> Result<(), Alloc
     Ok(())
 }
 
-/// A path by its start, and by the labels and serials of its steps, with a datum.
-fn found(alloc: Global, start: u32, steps: &[(u8, u32)]) -> Result<Found<JavaDatum>, AllocError> {
+/// Adds a path by the labels and serials of its steps, with a datum.
+fn add(
+    alloc: Global,
+    found: &mut FoundTree<JavaDatum>,
+    steps: &[(u8, u32)],
+) -> Result<(), AllocError> {
     let mut made = Vec::new(alloc);
     for (label, serial) in steps {
         if *label < 16 {
@@ -173,14 +177,16 @@ fn found(alloc: Global, start: u32, steps: &[(u8, u32)]) -> Result<Found<JavaDat
             })?;
         }
     }
-    Ok(Found {
-        path: Path::new(scope(start), made),
-        datum: JavaDatum::Member { name: NameId(M) },
-    })
+    found.add(made.as_slice(), JavaDatum::Member { name: NameId(M) })
 }
 
-fn paths(alloc: Global, all: Vec<Found<JavaDatum>>) -> Result<Answer<JavaDatum>, AllocError> {
-    Ok(Answer::Paths(FoundPaths::new(alloc, all)?))
+/// Paths from a scope by the labels and serials of their steps.
+fn paths(alloc: Global, start: u32, all: &[&[(u8, u32)]]) -> Result<Answer<JavaDatum>, AllocError> {
+    let mut found = FoundTree::new(alloc, scope(start));
+    for steps in all {
+        add(alloc, &mut found, steps)?;
+    }
+    Ok(Answer::Paths(FoundPaths::new(alloc, found)?))
 }
 
 fn named(number: u32) -> JavaPred {
@@ -195,29 +201,32 @@ fn small_log(alloc: Global) -> Result<Log, AllocError> {
     advance(&mut log, 6, Reply::Suspended)?;
     advance(&mut log, 2, Reply::Ready)?;
     advance(&mut log, 6, Reply::Ready)?;
-    let package = found(alloc, 0, &[(labels::PKG, 4)])?;
-    take(&mut log, 2, paths(alloc, vec![in alloc; package]?)?)?;
-    let seen = found(alloc, 7, &[(labels::PKGOF, 4), (labels::TYPE, 11)])?;
-    take(&mut log, 6, paths(alloc, vec![in alloc; seen]?)?)?;
+    take(&mut log, 2, paths(alloc, 0, &[&[(labels::PKG, 4)]])?)?;
+    take(
+        &mut log,
+        6,
+        paths(alloc, 7, &[&[(labels::PKGOF, 4), (labels::TYPE, 11)]])?,
+    )?;
     ask(&mut log, 4, 9, 9, JavaPred::Any)?;
     take(&mut log, 4, Answer::TooMany)?;
     ask(&mut log, 6, 5, 11, named(M))?;
-    let own = found(alloc, 11, &[(labels::METH, 24)])?;
-    let above = found(alloc, 11, &[(labels::EXT, 9), (labels::METH, 17)])?;
-    take(&mut log, 6, paths(alloc, vec![in alloc; own, above]?)?)?;
+    let own: &[(u8, u32)] = &[(labels::METH, 24)];
+    let above: &[(u8, u32)] = &[(labels::EXT, 9), (labels::METH, 17)];
+    take(&mut log, 6, paths(alloc, 11, &[own, above])?)?;
     ask(&mut log, 6, 3, 7, named(B))?;
-    let again = found(alloc, 7, &[(labels::PKGOF, 4), (labels::TYPE, 11)])?;
-    take(&mut log, 6, paths(alloc, vec![in alloc; again]?)?)?;
+    take(
+        &mut log,
+        6,
+        paths(alloc, 7, &[&[(labels::PKGOF, 4), (labels::TYPE, 11)]])?,
+    )?;
     ask(&mut log, 6, 9, 11, JavaPred::Any)?;
-    let itself = found(alloc, 11, &[])?;
-    take(&mut log, 6, paths(alloc, vec![in alloc; itself]?)?)?;
+    take(&mut log, 6, paths(alloc, 11, &[&[]])?)?;
     ask(&mut log, 6, 4, 11, named(X))?;
-    take(&mut log, 6, paths(alloc, vec![in alloc]?)?)?;
+    take(&mut log, 6, paths(alloc, 11, &[])?)?;
     ask(&mut log, 9, 9, 14, JavaPred::Any)?;
     take(&mut log, 9, Answer::TooMany)?;
     ask(&mut log, 9, 8, 26, JavaPred::Any)?;
-    let signature = found(alloc, 26, &[(labels::SIG, 38)])?;
-    take(&mut log, 9, paths(alloc, vec![in alloc; signature]?)?)?;
+    take(&mut log, 9, paths(alloc, 26, &[&[(labels::SIG, 38)]])?)?;
     ask(&mut log, 10, 7, 15, JavaPred::Any)?;
     advance(&mut log, 10, Reply::Suspended)?;
     Ok(log)

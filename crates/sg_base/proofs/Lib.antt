@@ -10,3 +10,4 @@ pub mod Rising
 pub mod Rows
 pub mod Scopes
 pub mod Searching
+pub mod Trees

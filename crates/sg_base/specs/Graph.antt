@@ -88,5 +88,6 @@ pub record AddsDatum {D : Type 0} (old new : GraphOf D) (s : Scope) (d : D) : Ty
   pub edges : new.edges ≡ old.edges
   pub given : (t : Scope) (e : D) → (HasDatum new t e) ↔ (HasDatum old t e ⊎ ((t ≡ s) × (e ≡ d)))
 
+-- the order of edges is total
 pub edge_total : IsTotalOrder edge_cmp
 edge_total = then_total (on_total (λ e. e.from) scope_total) (then_total (on_total (λ e. e.label) nat_cmp_total) (on_total (λ e. e.to) scope_total))

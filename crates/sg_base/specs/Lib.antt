@@ -3,6 +3,7 @@ pub mod Instance
 pub mod Label
 pub mod List
 pub mod Path
+pub mod PathTree
 pub mod Row
 pub mod Scope
 pub mod State

@@ -37,8 +37,10 @@ step_cmp = then_cmp (on (λ p. p.label) nat_cmp) (on (λ p. p.to) scope_cmp)
 abbrev pub path_cmp : PathOf → PathOf → Ordering
 path_cmp = then_cmp (on (λ p. p.start) scope_cmp) (on (λ p. p.steps) (slice_cmp step_cmp))
 
+-- the order of steps is total
 pub step_total : IsTotalOrder step_cmp
 step_total = then_total (on_total (λ p. p.label) nat_cmp_total) (on_total (λ p. p.to) scope_total)
 
+-- the order of paths is total
 pub path_total : IsTotalOrder path_cmp
 path_total = then_total (on_total (λ p. p.start) scope_total) (on_total (λ p. p.steps) (lists_total step_total))

@@ -35,5 +35,6 @@ pub record AreRows (rows : List (Row × List Scope)) : Type 0 where
 abbrev pub AddsTarget : List (Row × List Scope) → List (Row × List Scope) → Row → Scope → Type 0
 AddsTarget old new r t = (e : Edge) → (Contains (edges_in new) e) ↔ (Contains (edges_in old) e ⊎ (e ≡ edge_to r t))
 
+-- the order of rows is total
 pub row_total : IsTotalOrder row_cmp
 row_total = then_total (on_total (λ r. r.from) scope_total) (on_total (λ r. r.label) nat_cmp_total)

@@ -13,5 +13,6 @@ scope_cmp = then_cmp (on (λ s. s.unit) nat_cmp) (on (λ s. s.serial) nat_cmp)
 abbrev pub is_scope : Scope → Scope → Bool
 is_scope a b = (a.unit == b.unit) && (a.serial == b.serial)
 
+-- the order of scopes is total
 pub scope_total : IsTotalOrder scope_cmp
 scope_total = then_total (on_total (λ s. s.unit) nat_cmp_total) (on_total (λ s. s.serial) nat_cmp_total)

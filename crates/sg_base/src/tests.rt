@@ -2,7 +2,7 @@
 
 ghost use Rattle.std.specs.Prelude.{◌<◌};
 
-use crate::{Graph, Instance, Label, LabelSet, Mark, Path, Scope, Step};
+use crate::{Graph, Instance, Label, LabelSet, Mark, Path, PathTree, Scope, Step};
 use std::alloc::{AllocError, Global};
 use std::cmp::Ordering;
 use std::test::Fail;
@@ -66,6 +66,39 @@ fn paths_are_ordered_step_by_step(rt: HostRuntime) -> Result<(), Fail> {
     assert_eq!(rt; long.end(), scope(0));
     assert_eq!(rt; other.end(), scope(6));
     assert_eq!(rt; Path::new(scope(4), Vec::new(rt.alloc())).end(), scope(4));
+    Ok(())
+}
+
+#[test]
+fn paths_of_a_tree_share_their_fronts(rt: HostRuntime) -> Result<(), Fail> {
+    let mut tree = PathTree::new(rt.alloc(), scope(0));
+    for (parent, to) in [(0, 1), (1, 2), (0, 3), (2, 4), (1, 5)] {
+        assert!(rt; parent < tree.len());
+        let label = Label::new(1);
+        tree.push(
+            parent,
+            Step {
+                label,
+                to: scope(to),
+            },
+        )?;
+    }
+    for (p, q, order) in [
+        (4, 5, Ordering::Less),
+        (3, 4, Ordering::Greater),
+        (2, 4, Ordering::Less),
+        (4, 0, Ordering::Greater),
+        (2, 2, Ordering::Equal),
+    ] {
+        assert!(rt; p < tree.len() && q < tree.len());
+        assert!(rt; tree.compare(p, q) == order, "at {p} and {q}");
+    }
+    assert!(rt; 4 < tree.len());
+    let path = tree.path(4).path(rt.alloc())?;
+    let ends = path.steps();
+    assert_eq!(rt; ends.len(), 3);
+    assert!(rt; ends[0].to == scope(1) && ends[1].to == scope(2) && ends[2].to == scope(4));
+    assert_eq!(rt; path.start(), scope(0));
     Ok(())
 }
 

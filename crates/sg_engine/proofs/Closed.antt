@@ -7,7 +7,7 @@ use Rattle.sg_base.specs.Graph.{GraphOf, IsGraph, HasScope, HasEdge, IsWalk, IsP
 use Rattle.sg_base.specs.Label.{Word}
 use Rattle.sg_base.specs.List.{IsDistinct}
 use Rattle.sg_base.specs.Path.{end_of, word_of, reached_by}
-use Rattle.sg_base.specs.State.{State, IsOpen, Extends, PassesClosed, IsClosedPath}
+use Rattle.sg_base.specs.State.{State, IsOpen, Extends, IsClosedPath}
 use Rattle.sg_base.proofs.Finite.{Distinct-left}
 use Rattle.sg_expr.specs.Tree.{ExprOf}
 use Rattle.sg_expr.specs.Word.{In, IsViable}

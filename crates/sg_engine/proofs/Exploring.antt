@@ -5,7 +5,7 @@ use Rattle.std.specs.List.{Contains, filter}
 use Rattle.std.proofs.lemmas.List.Elements.{Contains-append_left, Contains-append_right, Contains-append_cases}
 use Rattle.sg_base.specs.declared.scope.Scope.{Scope}
 use Rattle.sg_base.specs.declared.step.Step.{Step}
-use Rattle.sg_base.specs.Graph.{GraphOf, IsGraph, HasEdge, HasDatum, row_of}
+use Rattle.sg_base.specs.Graph.{IsGraph, HasDatum, row_of}
 use Rattle.sg_base.specs.List.{IsDistinct, IsCount}
 use Rattle.sg_base.specs.Path.{end_of, word_of, reached_by}
 use Rattle.sg_base.specs.State.{State, IsOpen, IsUnset, IsClosedPath}

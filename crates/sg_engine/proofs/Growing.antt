@@ -9,33 +9,26 @@ use Rattle.sg_base.specs.declared.step.Step.{Step}
 use Rattle.sg_base.specs.List.{IsDistinct}
 use Rattle.sg_base.specs.Label.{Word}
 use Rattle.sg_base.specs.Path.{word_of}
+use Rattle.sg_base.specs.PathTree.{path_at}
 use Rattle.sg_base.specs.Scope.{is_scope}
 use Rattle.sg_base.proofs.Finite.{single, Contains-head, map-Contains, Contains-map, Distinct-map, each_from}
+use Rattle.sg_base.proofs.Trees.{path_at-left, path_at-end}
 use Rattle.sg_expr.specs.Tree.{ExprOf}
 use Rattle.sg_expr.specs.Word.{In, IsContinuable}
 use Rattle.sg_query.specs.declared.found.Found.{Found}
+use Rattle.sg_query.specs.declared.found_at.FoundAt.{FoundAt}
 use Rattle.sg_query.specs.State.{Item, next, whole}
 use Rattle.sg_query.specs.Steps.{is_fresh}
 use Rattle.sg_query.proofs.Paths.{word_of-append, end_of-append}
-use Rattle.sg_engine.specs.declared.found_at.FoundAt.{FoundAt}
 use Rattle.sg_engine.specs.Nodes.{NodeOf as Node, RestOf, InRest}
 use Rattle.sg_engine.specs.declared.work.Work.{Work}
 use Rattle.sg_engine.specs.declared.work.Work.TheVariants.{Next, Whole}
 use Rattle.sg_engine.specs.Front.{Front, path_of, IsOffered, step_to}
 use Rattle.sg_engine.specs.Growth.{Keeps, Gains, into_targets}
-use Rattle.sg_engine.specs.Tree.{path_at, paths_from, paths_of, item_of, place_of, IsNodeOf, IsWorkOf, found_of, front_on, IsTreeOn}
+use Rattle.sg_engine.specs.Tree.{paths_from, paths_of, item_of, place_of, IsNodeOf, IsWorkOf, found_of, front_on, IsTreeOn}
 use Rattle.sg_engine.proofs.Exploring.{gains_both}
 
 -- ---- paths by place
-
-pub path_at-left : (ps qs : List (List Step)) (k : ℕ) → k < length ps → path_at (ps ++ qs) k ≡ path_at ps k
-path_at-left [] qs k l = absurd (omega arith)
-path_at-left (p ∷ ps) qs zero l = refl
-path_at-left (p ∷ ps) qs (suc k) l = path_at-left ps qs k (omega arith)
-
-pub path_at-end : (ps : List (List Step)) (p : List Step) → path_at (ps ++ p ∷ []) (length ps) ≡ p
-path_at-end [] p = refl
-path_at-end (q ∷ ps) p = path_at-end ps p
 
 paths_from-push : (acc : List (List Step)) (ns : List Node) (n : Node) → paths_from acc (ns ++ n ∷ []) ≡ paths_from acc ns ++ (path_at (paths_from acc ns) n.parent ++ n.step ∷ []) ∷ []
 paths_from-push acc [] n = refl

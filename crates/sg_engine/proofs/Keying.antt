@@ -1,12 +1,12 @@
 -- What a search passes over by keys.
-use Rattle.std.proofs.Common.{◌≡◌, ◌≢◌, ℕ, ◌<◌, List, [], ◌∷◌, ◌++◌, ◌⊎◌, ◌↔◌, Bool, IsTrue, true, false, eqb, Option, Some, Result, Ok, Err, OnOk, map, inl, inr, refl, sym, ap, ◌∙◌, subst, append_assoc, slice_index_or, arith}
+use Rattle.std.proofs.Common.{◌≡◌, ◌≢◌, ℕ, List, [], ◌∷◌, ◌++◌, ◌⊎◌, ◌↔◌, Bool, IsTrue, true, false, eqb, Some, Result, Ok, Err, OnOk, inl, inr, sym, ◌∙◌, subst, append_assoc, slice_index_or, arith}
 use Rattle.std.proofs.lemmas.Bool.{cases_Bool}
 use Rattle.std.proofs.lemmas.Bool.Decides.{nat_tests}
-use Rattle.std.specs.List.{Contains, filter}
+use Rattle.std.specs.List.{Contains}
 use Rattle.std.proofs.lemmas.List.Elements.{Contains-append_left, Contains-append_right, Contains-append_cases}
 use Rattle.sg_base.specs.declared.scope.Scope.{Scope}
 use Rattle.sg_base.specs.declared.step.Step.{Step}
-use Rattle.sg_base.specs.Graph.{GraphOf, IsGraph, HasScope, HasEdge, HasDatum, IsWalk, row_of}
+use Rattle.sg_base.specs.Graph.{GraphOf, IsGraph, HasEdge, HasDatum, IsWalk, row_of}
 use Rattle.sg_base.specs.List.{IsRising, MoreThan}
 use Rattle.sg_base.specs.Path.{end_of, word_of}
 use Rattle.sg_base.specs.Scope.{scope_cmp, scope_total}
@@ -19,13 +19,12 @@ use Rattle.sg_expr.specs.Tree.{ExprOf}
 use Rattle.sg_expr.specs.Word.{In, IsContinuable}
 use Rattle.sg_query.specs.Query.{Asked}
 use Rattle.sg_query.specs.State.{Item, next, whole, IsItem}
-use Rattle.sg_query.specs.Steps.{is_fresh}
 use Rattle.sg_query.proofs.Paths.{word_of-append, end_of-append, snoc_same, end_in}
 use Rattle.sg_state.specs.Held.{HeldOf, IsHeld, IsRest, IsKeyed, state_of}
-use Rattle.sg_state.specs.Rest.{AreRowsInParts, KeepsRows}
+use Rattle.sg_state.specs.Rest.{AreRowsInParts}
 use Rattle.sg_state.proofs.Extending.{unset_from}
 use Rattle.sg_state.proofs.Resting.{rows_split}
-use Rattle.sg_engine.specs.Front.{Front, path_of, step_to, IsBlocked, IsIdle, IsBarren, AreTargets, StandsAfter}
+use Rattle.sg_engine.specs.Front.{Front, path_of, step_to, IsBlocked, IsBarren, StandsAfter}
 use Rattle.sg_engine.specs.Growth.{into_targets}
 use Rattle.sg_engine.specs.Nodes.{NodeOf, NodesOf, IsRestAfter}
 use Rattle.sg_engine.specs.Tree.{IsNodeOf}

@@ -7,6 +7,7 @@ pub mod Exploring
 pub mod Growing
 pub mod Keeping
 pub mod Keying
+pub mod Laid
 pub mod Listing
 pub mod Looking
 pub mod Needing

@@ -5,13 +5,14 @@ use Rattle.std.proofs.lemmas.List.{get_or_append_left, get_or-take, length-take}
 use Rattle.std.proofs.Math.Seq.{get_or-append_seam}
 use Rattle.std.specs.Prelude.{IsTrue}
 use Rattle.sg_base.specs.declared.scope.Scope.{Scope}
+use Rattle.sg_base.specs.PathTree.{path_at}
 use Rattle.sg_base.specs.Scope.{is_scope}
 use Rattle.sg_expr.specs.Tree.{ExprOf}
+use Rattle.sg_query.specs.declared.found_at.FoundAt.{FoundAt}
 use Rattle.sg_query.specs.Steps.{is_fresh}
-use Rattle.sg_engine.specs.declared.found_at.FoundAt.{FoundAt}
 use Rattle.sg_engine.specs.declared.work.Work.{Work}
 use Rattle.sg_engine.specs.Nodes.{NodeOf, IsPassed, StayPassed, ParentsPass, EndElsewhere}
-use Rattle.sg_engine.specs.Tree.{path_at, paths_of, IsTreeOn}
+use Rattle.sg_engine.specs.Tree.{paths_of, IsTreeOn}
 use Rattle.sg_engine.proofs.Growing.{fresh_up, fresh_root}
 use Rattle.sg_engine.proofs.Resting.{one_at, there_is}
 

@@ -1,7 +1,6 @@
 -- Nodes that hold sets of positions.
 use Rattle.std.proofs.Common.{◌≡◌, ℕ, zero, suc, ◌<◌, List, [], ◌∷◌, ◌++◌, ◌↔◌, map, take, length, slice_index_or, refl, sym, ap, ◌∙◌, subst, arith}
 use Rattle.std.proofs.lemmas.List.{get_or_append_left}
-use Rattle.std.specs.List.{AllByRecursion}
 use Rattle.sg_base.specs.Label.{Word}
 use Rattle.sg_expr.specs.Positions.{PositionsOf, Accepts}
 use Rattle.sg_engine.specs.declared.nodes.Node.{Node}

@@ -6,17 +6,18 @@ use Rattle.sg_base.specs.declared.step.Step.{Step}
 use Rattle.sg_base.specs.Label.{Word}
 use Rattle.sg_base.specs.List.{IsDistinct}
 use Rattle.sg_base.specs.Path.{word_of}
+use Rattle.sg_base.specs.PathTree.{path_at}
 use Rattle.sg_base.proofs.Finite.{single, Contains-head, map-Contains, Contains-map, Distinct-map, each_from}
 use Rattle.sg_expr.specs.Tree.{ExprOf}
 use Rattle.sg_expr.specs.Word.{In, IsContinuable}
+use Rattle.sg_query.specs.declared.found_at.FoundAt.{FoundAt}
 use Rattle.sg_query.specs.State.{Item, next, whole}
-use Rattle.sg_engine.specs.declared.found_at.FoundAt.{FoundAt}
 use Rattle.sg_engine.specs.Nodes.{NodeOf as Node, RestOf, InRest}
 use Rattle.sg_engine.specs.declared.work.Work.{Work}
 use Rattle.sg_engine.specs.declared.work.Work.TheVariants.{Next, Whole}
 use Rattle.sg_engine.specs.Front.{path_of, IsOffered}
 use Rattle.sg_engine.specs.Growth.{Keeps, Gains, no_front}
-use Rattle.sg_engine.specs.Tree.{path_at, item_of, place_of, IsNodeOf, IsWorkOf, front_on, IsTreeOn}
+use Rattle.sg_engine.specs.Tree.{item_of, place_of, IsNodeOf, IsWorkOf, front_on, IsTreeOn}
 
 abbrev no_steps : List (List Step)
 no_steps = [] ∷ []

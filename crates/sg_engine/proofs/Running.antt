@@ -1,16 +1,17 @@
 -- A run over the items of a front, as the tree holds it.
-use Rattle.std.proofs.Common.{◌≡◌, ◌≢◌, ℕ, ◌<◌, ◌≤◌, ◌+◌, List, [], ◌∷◌, ◌++◌, Bool, true, false, eqb, map, length, drop, refl, sym, ap, ◌∙◌, subst, arith}
+use Rattle.std.proofs.Common.{◌≡◌, ◌≢◌, ℕ, ◌<◌, ◌≤◌, ◌+◌, List, [], ◌∷◌, ◌++◌, true, false, eqb, map, length, drop, refl, sym, ap, ◌∙◌, subst, arith}
 use Rattle.std.proofs.lemmas.Bool.Decides.{nat_tests}
 use Rattle.std.proofs.lemmas.List.{append-nil}
 use Rattle.std.specs.List.{Contains, AllByRecursion}
 use Rattle.sg_base.specs.declared.scope.Scope.{Scope}
 use Rattle.sg_base.specs.declared.step.Step.{Step}
 use Rattle.sg_base.specs.Path.{end_of}
+use Rattle.sg_base.specs.PathTree.{path_at}
 use Rattle.sg_base.specs.State.{State, IsOpen, IsUnset}
 use Rattle.sg_base.proofs.Finite.{each_at, Contains-map, map-Contains}
+use Rattle.sg_query.specs.declared.found_at.FoundAt.{FoundAt}
 use Rattle.sg_query.specs.Query.{Asked}
 use Rattle.sg_query.specs.State.{Item}
-use Rattle.sg_engine.specs.declared.found_at.FoundAt.{FoundAt}
 use Rattle.sg_engine.specs.declared.look.Look.{Look}
 use Rattle.sg_engine.specs.declared.look.Look.TheVariants.{Many, Over, Free}
 use Rattle.sg_engine.specs.Nodes.{NodeOf as Node}
@@ -21,7 +22,7 @@ use Rattle.sg_state.specs.Held.{HeldOf, state_of}
 use Rattle.sg_engine.specs.Front.{IsBlocked, AllBlocked}
 use Rattle.sg_engine.specs.Keyed.{Wanting}
 use Rattle.sg_engine.specs.Run.{HasLooked, IsSearchOn, IsSearchIn}
-use Rattle.sg_engine.specs.Tree.{path_at, paths_of, item_of, place_of, left_of, front_of, BlocksWork, AllBlock}
+use Rattle.sg_engine.specs.Tree.{paths_of, item_of, place_of, left_of, front_of, BlocksWork, AllBlock}
 use Rattle.sg_engine.proofs.Exploring.{cut_has}
 
 pub each_left : {X : Type 0} (P : X → Type 0) (b r : List X) → AllByRecursion P (b ++ r) → AllByRecursion P b

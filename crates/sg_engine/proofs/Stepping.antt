@@ -6,21 +6,22 @@ use Rattle.sg_base.specs.declared.scope.Scope.{Scope}
 use Rattle.sg_base.specs.Graph.{HasDatum}
 use Rattle.sg_base.specs.List.{IsDistinct}
 use Rattle.sg_base.specs.Path.{PathOf, end_of}
+use Rattle.sg_base.specs.PathTree.{path_at}
 use Rattle.sg_base.specs.State.{State}
 use Rattle.sg_base.proofs.Finite.{single, Contains-map, Distinct-push}
 use Rattle.sg_base.proofs.Scopes.{path_by}
 use Rattle.sg_expr.specs.Tree.{ExprOf}
 use Rattle.sg_query.specs.declared.found.Found.{Found}
+use Rattle.sg_query.specs.declared.found_at.FoundAt.{FoundAt}
 use Rattle.sg_query.specs.Query.{Asked}
 use Rattle.sg_query.specs.State.{Item, next, whole}
 use Rattle.sg_query.proofs.Walking.{found_by}
-use Rattle.sg_engine.specs.declared.found_at.FoundAt.{FoundAt}
 use Rattle.sg_engine.specs.Nodes.{NodeOf as Node}
 use Rattle.sg_engine.specs.declared.work.Work.{Work}
 use Rattle.sg_engine.specs.declared.work.Work.TheVariants.{Next, Whole}
 use Rattle.sg_engine.specs.Front.{Front, AreTargets, Stands}
 use Rattle.sg_engine.specs.Growth.{Gains, with_left, one_explored, into_targets}
-use Rattle.sg_engine.specs.Tree.{path_at, paths_of, item_of, place_of, found_of, front_on, IsTreeOn, BlocksWork}
+use Rattle.sg_engine.specs.Tree.{paths_of, item_of, place_of, found_of, front_on, IsTreeOn, BlocksWork}
 use Rattle.sg_engine.proofs.Exploring.{stands_next, stands_whole}
 use Rattle.sg_engine.proofs.Growing.{map-append}
 use Rattle.sg_engine.proofs.Offering.{map-push}

@@ -3,6 +3,7 @@ pub mod Front
 pub mod Growth
 pub mod Keyed
 pub mod Law
+pub mod Laying
 pub mod Need
 pub mod Nodes
 pub mod Outcome

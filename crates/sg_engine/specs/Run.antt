@@ -3,13 +3,14 @@ use Rattle.std.specs.Prelude.{◌≡◌, ◌≢◌, ℕ, ◌+◌, ◌<◌, ◌�
 use Rattle.std.specs.List.{Contains}
 use Rattle.sg_base.specs.declared.scope.Scope.{Scope}
 use Rattle.sg_base.specs.declared.step.Step.{Step}
+use Rattle.sg_base.specs.PathTree.{path_at}
 use Rattle.sg_base.specs.State.{State}
+use Rattle.sg_query.specs.declared.found_at.FoundAt.{FoundAt}
 use Rattle.sg_query.specs.Answer.{most_paths}
 use Rattle.sg_query.specs.Query.{Asked}
 use Rattle.sg_query.specs.State.{Item}
 use Rattle.sg_engine.specs.declared.explore.Stepped.{Stepped}
 use Rattle.sg_engine.specs.declared.explore.Stepped.TheVariants as s
-use Rattle.sg_engine.specs.declared.found_at.FoundAt.{FoundAt}
 use Rattle.sg_engine.specs.declared.look.Look.{Look}
 use Rattle.sg_engine.specs.declared.look.Look.TheVariants.{Many, Over, Free}
 use Rattle.sg_engine.specs.Nodes.{NodeOf as Node}
@@ -22,7 +23,7 @@ use Rattle.sg_engine.specs.declared.work.Work.{Work}
 use Rattle.sg_state.specs.Held.{HeldOf, state_of}
 use Rattle.sg_engine.specs.Front.{Stands, IsBlocked, AllBlocked}
 use Rattle.sg_engine.specs.Keyed.{Wanting, PassesOver}
-use Rattle.sg_engine.specs.Tree.{path_at, paths_of, left_of, front_of, front_on, IsTreeOn, AllBlock, BlocksWork}
+use Rattle.sg_engine.specs.Tree.{paths_of, left_of, front_of, front_on, IsTreeOn, AllBlock, BlocksWork}
 
 -- too many paths go on; or blocked work was put aside, up to the queue's end, or up to the first that is free
 abbrev pub HasLooked : {D : Type 0} → State D → Tree D → Tree D → Look → Type 0

@@ -1,5 +1,5 @@
 -- Searches as callers see them, and what an advance does.
-use Rattle.std.specs.Prelude.{◌≡◌, ◌≢◌, ◌+◌, ◌<◌, ◌≤◌, List, [], Bool, ◌⊎◌, ◌↔◌, Option, Some, length}
+use Rattle.std.specs.Prelude.{◌≡◌, ◌≢◌, ◌+◌, ◌<◌, ◌≤◌, List, [], Bool, ◌⊎◌, Option, Some, length}
 use Rattle.std.specs.List.{Contains}
 use Rattle.sg_base.specs.declared.mark.Mark.{Mark}
 use Rattle.sg_base.specs.List.{IsRising, MoreThan}

@@ -1,29 +1,24 @@
 -- Paths that share their fronts: each is another path with one more step.
-use Rattle.std.specs.Prelude.{◌≡◌, ℕ, zero, suc, ◌+◌, ◌*◌, ◌<◌, ◌≤◌, List, [], ◌∷◌, ◌++◌, ◌↔◌, length, map, drop, slice_index_or, Option, Some, None}
+use Rattle.std.specs.Prelude.{◌≡◌, ℕ, ◌+◌, ◌*◌, ◌<◌, ◌≤◌, List, [], ◌∷◌, ◌++◌, ◌↔◌, length, map, drop, slice_index_or, Option, Some, None}
 use Rattle.std.specs.List.{AllByRecursion}
 use Rattle.sg_base.specs.declared.scope.Scope.{Scope}
 use Rattle.sg_base.specs.declared.step.Step.{Step}
 use Rattle.sg_base.specs.Label.{Word}
 use Rattle.sg_base.specs.Path.{end_of, word_of}
+use Rattle.sg_base.specs.PathTree.{path_at}
 use Rattle.sg_base.specs.State.{State}
 use Rattle.sg_expr.specs.Tree.{ExprOf}
 use Rattle.sg_expr.specs.Word.{In}
 use Rattle.sg_query.specs.declared.found.Found.{Found}
+use Rattle.sg_query.specs.declared.found_at.FoundAt.{FoundAt}
 use Rattle.sg_query.specs.Query.{Asked}
 use Rattle.sg_query.specs.State.{Item, next, whole}
-use Rattle.sg_engine.specs.declared.found_at.FoundAt.{FoundAt}
 use Rattle.sg_engine.specs.Nodes.{NodeOf as Node, RestOf, InRest}
 use Rattle.sg_engine.specs.declared.spent.Spent.{Spent}
 use Rattle.sg_engine.specs.declared.tree.Tree.{Tree}
 use Rattle.sg_engine.specs.declared.work.Work.{Work}
 use Rattle.sg_engine.specs.declared.work.Work.TheVariants.{Next, Whole}
 use Rattle.sg_engine.specs.Front.{Front, IsBlocked, Stands}
-
--- the path at a place, if there is one
-abbrev pub path_at : List (List Step) → ℕ → List Step
-path_at [] k = []
-path_at (p ∷ ps) zero = p
-path_at (p ∷ ps) (suc k) = path_at ps k
 
 -- the paths of nodes that come behind these
 abbrev pub paths_from : List (List Step) → List Node → List (List Step)

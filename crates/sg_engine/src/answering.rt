@@ -1,48 +1,35 @@
-ghost use Rattle.std.specs.Prelude.{◌≡◌, ◌<◌, IfOk, length, map};
+ghost use Rattle.std.specs.Prelude.{◌≡◌, IfOk, map};
 ghost use Rattle.sg_base.specs.List.{IsDistinct};
 ghost use Rattle.sg_expr.specs.Tree.{ExprOf};
 ghost use Rattle.sg_order.specs.Order.{precedes};
 ghost use Rattle.sg_engine.specs.Search.{AnswersBy};
-ghost use Rattle.sg_engine.specs.Tree.{path_at, paths_of, found_of, front_of, IsTree};
+ghost use Rattle.sg_engine.specs.Tree.{paths_of, found_of, front_of, IsTree};
 
+use crate::laying::{lay, no_places};
 use crate::tree::Tree;
-use sg_base::{Instance, Path};
+use sg_base::{Instance, PathTree};
 use sg_order::Order;
-use sg_query::{Answer, Found, FoundPaths, MOST_PATHS, visible_of};
+use sg_query::{Answer, FoundAt, FoundTree, MOST_PATHS, visible_of};
 use std::alloc::{AllocError, Global};
 
-/// The path of a node, in the time of its length.
-fn path_to<D>(alloc: Global, tree: &Tree<D>, place: usize) -> Result<Path, AllocError>
-    requires tree { (e : ExprOf) × IsTree e tree.now }
-    requires there { place < length tree.now.nodes.items }
-    ensures { IfOk result (λ p. p ≡ record { start = tree.now.start; steps = path_at (paths_of tree.now.nodes.items) place }) }
-{
-    let mut steps = Vec::new(alloc);
-    let mut k = place;
-    while k != 0 {
-        let node = tree.nodes.at(k);
-        steps.push(node.step)?;
-        k = node.parent;
-    }
-    steps.reverse();
-    Ok(Path::new(tree.start, steps))
-}
-
-/// The paths that were found to reach a wanted datum.
-fn found_paths<I: Instance>(
+/// The paths that were found to reach a wanted datum, in a tree of their own, which has the nodes that lead to them, each
+/// once. It takes the time of these nodes, and of a table of all nodes of the search.
+fn found_tree<I: Instance>(
     alloc: Global,
     tree: &Tree<I::Datum>,
-) -> Result<Vec<Found<I::Datum>>, AllocError>
+) -> Result<FoundTree<I::Datum>, AllocError>
     requires tree { (e : ExprOf) × IsTree e tree.now }
-    ensures { IfOk result (λ r. r.items ≡ map (found_of tree.now.start (paths_of tree.now.nodes.items)) tree.now.found.items) }
+    ensures { IfOk result (λ r. (r.start ≡ tree.now.start) × (r.found ≡ map (found_of tree.now.start (paths_of tree.now.nodes.items)) tree.now.found.items)) }
 {
+    let mut paths = PathTree::new(alloc, tree.start);
+    let mut places = no_places(alloc, tree)?;
     let mut found = Vec::new(alloc);
     for f in &tree.found {
-        let path = path_to(alloc, tree, f.place)?;
+        let place = lay(alloc, tree, f.place, &mut places, &mut paths)?;
         let datum = I::copy_datum(alloc, &f.datum)?;
-        found.push(Found { path, datum })?;
+        found.push(FoundAt { place, datum })?;
     }
-    Ok(found)
+    Ok(FoundTree::of(paths, found))
 }
 
 /// The answer by what was found. Where the order has a pair, found paths whose data have one key are compared, each with
@@ -59,7 +46,6 @@ pub fn answer_of<I: Instance>(
     if tree.going > MOST_PATHS {
         return Ok(Answer::TooMany);
     }
-    let all = found_paths::<I>(alloc, tree)?;
-    let visible = visible_of::<I>(alloc, order, all)?;
-    Ok(Answer::Paths(FoundPaths::new(alloc, visible)?))
+    let all = found_tree::<I>(alloc, tree)?;
+    Ok(Answer::Paths(visible_of::<I>(alloc, order, all)?))
 }

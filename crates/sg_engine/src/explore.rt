@@ -3,6 +3,7 @@ ghost use Rattle.sg_base.specs.declared.scope.Scope.{Scope as ScopeOf};
 ghost use Rattle.sg_base.specs.Graph.{row_of};
 ghost use Rattle.sg_base.specs.Label.{Word};
 ghost use Rattle.sg_base.specs.Path.{end_of};
+ghost use Rattle.sg_base.specs.PathTree.{path_at};
 ghost use Rattle.sg_expr.specs.Positions.{Accepts};
 ghost use Rattle.sg_expr.specs.Tree.{ExprOf};
 ghost use Rattle.sg_base.specs.declared.step.Step.{Step as StepOf};
@@ -14,13 +15,12 @@ ghost use Rattle.sg_engine.specs.Growth.{Gains, into_targets};
 ghost use Rattle.sg_engine.specs.Keyed.{AreKeyedTargets, PassesOver, wanting_by};
 ghost use Rattle.sg_engine.specs.Nodes.{IsRestAfter};
 ghost use Rattle.sg_engine.specs.Run.{HasTaken, HasStepped, IsSearchIn, KeepsBlocked};
-ghost use Rattle.sg_engine.specs.Tree.{path_at, paths_of, place_of, front_of, IsTree, IsTreeWith, StandsWith, ListsOn};
+ghost use Rattle.sg_engine.specs.Tree.{paths_of, place_of, front_of, IsTree, IsTreeWith, StandsWith, ListsOn};
 
-use crate::found_at::FoundAt;
 use crate::tree::Tree;
 use crate::work::Work;
 use sg_base::{Instance, Label, Scope};
-use sg_query::MOST_PATHS;
+use sg_query::{FoundAt, MOST_PATHS};
 use sg_state::{DatumState, Held};
 use std::alloc::{AllocError, Global};
 

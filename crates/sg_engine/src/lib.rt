@@ -7,8 +7,8 @@
 
 mod answering;
 mod explore;
-mod found_at;
 pub mod laws;
+mod laying;
 mod look;
 mod mark;
 mod needs;

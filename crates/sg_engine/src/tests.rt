@@ -14,6 +14,7 @@ use crate::{Progress, Search};
 use sg_base::laws::extensions_chain;
 use sg_base::{Instance, Label, Scope, Step};
 use sg_expr::Expr;
+use sg_numbers::{Numbers, scope};
 use sg_order::Order;
 use sg_query::{Answer, Kind, KindTable, Query};
 use sg_state::laws::writes_extend;
@@ -92,61 +93,6 @@ impl Instance for Counted {
     } };
 
     ghost keyed = { λ p d k e t. absurd (cc) };
-
-    ghost one_key = { λ a b h. Prim.grind (arith, nat_tests) };
-}
-
-/// Data that are numbers, each its own key, and predicates that want one number.
-struct Keyed;
-
-impl Instance for Keyed {
-    ghost use Rattle.std.specs.Prelude.{◌==◌, Some};
-    ghost use Rattle.std.proofs.Common.{arith};
-    ghost use Rattle.std.proofs.lemmas.Bool.Decides.{nat_tests};
-
-    type Datum = u64;
-
-    type Pred = u64;
-
-    ghost wants = { λ p d. p == d };
-
-    ghost same_datum = { λ a b. a == b };
-
-    ghost pred_key = { λ p. Some p };
-
-    ghost datum_key = { λ d. d };
-
-    fn matches(p: &u64, d: &u64) -> bool {
-        *p == *d
-    }
-
-    fn same(a: &u64, b: &u64) -> bool {
-        *a == *b
-    }
-
-    fn key_of_pred(p: &u64) -> Option<u64> {
-        Some(*p)
-    }
-
-    fn key_of_datum(d: &u64) -> u64 {
-        *d
-    }
-
-    fn copy_datum(_alloc: Global, d: &u64) -> Result<u64, AllocError> {
-        Ok(*d)
-    }
-
-    fn copy_pred(_alloc: Global, p: &u64) -> Result<u64, AllocError> {
-        Ok(*p)
-    }
-
-    ghost sameness = { record {
-      reflexive = λ a. Prim.grind (arith, nat_tests);
-      symmetric = λ a b h. Prim.grind (arith, nat_tests);
-      transitive = λ a b c h k. Prim.grind (arith, nat_tests);
-    } };
-
-    ghost keyed = { λ p d k e t. Prim.grind (arith, nat_tests) };
 
     ghost one_key = { λ a b h. Prim.grind (arith, nat_tests) };
 }
@@ -281,11 +227,11 @@ fn paths<I: Instance<Datum = u64>>(
     match progress {
         Progress::Ready => match search.into_answer() {
             Answer::Paths(found) => {
-                let first = match found.as_slice() {
-                    [f, ..] => Some((f.path.steps().len(), f.datum)),
-                    [] => None,
-                };
-                Some((found.as_slice().len(), first))
+                if found.len() == 0 {
+                    return Some((0, None));
+                }
+                let first = found.at(0);
+                Some((found.len(), Some((first.path.len(), *first.datum))))
             }
             Answer::TooMany => None,
         },
@@ -347,14 +293,6 @@ fn run(
         found: paths(search, then),
         asked: count.load(Ordering::SeqCst),
     }))
-}
-
-/// A scope of an opening.
-fn scope(serial: u32) -> Scope {
-    Scope {
-        unit: u32::MAX,
-        serial,
-    }
 }
 
 /// An opening of a scope with this many targets that have data, and of one more that has, with no holders.
@@ -505,7 +443,7 @@ fn answer_at_once(alloc: Global, targets: u32, wanted: u64) -> Result<Option<Ans
     if !o.is_sound() {
         return Ok(None);
     }
-    let held = Held::<Keyed>::open(alloc, o)?;
+    let held = Held::<Numbers>::open(alloc, o)?;
     let query = Query {
         start: scope(0),
         kind: 0,
@@ -514,7 +452,7 @@ fn answer_at_once(alloc: Global, targets: u32, wanted: u64) -> Result<Option<Ans
     if table.is_empty() || !held.has_scope(query.start) {
         return Ok(None);
     }
-    let mut search = Search::<Keyed>::start(alloc, &table, query)?;
+    let mut search = Search::<Numbers>::start(alloc, &table, query)?;
     match search.advance(&held, &table)? {
         Progress::Ready => Ok(Some(search.into_answer())),
         Progress::Moved | Progress::Blocked => Ok(None),
@@ -527,16 +465,86 @@ fn a_key_in_a_long_row_is_found_at_once(rt: HostRuntime) -> Result<(), Fail> {
         label: Label::new(0),
         to: scope(42),
     };
-    match answer_at_once(rt.alloc(), 70, 41)? {
-        Some(Answer::Paths(found)) => match found.as_slice() {
-            [only] => {
-                assert_eq!(rt; only.path.start(), scope(0));
-                assert_eq!(rt; only.path.steps(), [step].as_slice());
-                assert_eq!(rt; only.datum, 41);
-            }
-            _ => return Err("not one path".into()),
-        },
-        _ => return Err("not found at once".into()),
+    let Some(Answer::Paths(found)) = answer_at_once(rt.alloc(), 70, 41)? else {
+        return Err("not found at once".into());
+    };
+    if found.len() != 1 {
+        return Err("not one path".into());
     }
+    let only = found.at(0);
+    let path = only.path.path(rt.alloc())?;
+    assert_eq!(rt; path.start(), scope(0));
+    assert_eq!(rt; path.steps(), [step].as_slice());
+    assert_eq!(rt; *only.datum, 41);
+    Ok(())
+}
+
+/// A chain of 40 scopes, with two branches: from scope 19 to scope 100, and from the end to scope 101. Both have the datum 7.
+fn branched(alloc: Global) -> Result<Opening<u64>, AllocError> {
+    let a = Label::new(0);
+    let mut o = star(alloc, 0)?;
+    for n in 0..39u32 {
+        let to = scope(n.saturating_add(1));
+        o.scopes.push(to)?;
+        o.edges.push((scope(n), a, to))?;
+    }
+    for (from, to) in [(19, 100), (39, 101)] {
+        o.scopes.push(scope(to))?;
+        o.edges.push((scope(from), a, scope(to)))?;
+        o.given.push((scope(to), 7))?;
+    }
+    Ok(o)
+}
+
+/// The answer of a search for a number along all paths from the first scope of an opening, if 100 advances find it.
+fn answer_along(alloc: Global, o: Opening<u64>, wanted: u64) -> Result<Option<Answer<u64>>, Fail> {
+    let expr = Expr::Star(Box::new(alloc, Expr::One(Label::new(0)))?);
+    let Some(table) = table_of(alloc, expr)? else {
+        return Ok(None);
+    };
+    if !o.is_sound() {
+        return Ok(None);
+    }
+    let held = Held::<Numbers>::open(alloc, o)?;
+    let query = Query {
+        start: scope(0),
+        kind: 0,
+        pred: wanted,
+    };
+    if table.is_empty() || !held.has_scope(query.start) {
+        return Ok(None);
+    }
+    let mut search = Search::<Numbers>::start(alloc, &table, query)?;
+    let (_, progress) = advance_on(&mut search, &held, &table)?;
+    match progress {
+        Progress::Ready => Ok(Some(search.into_answer())),
+        Progress::Moved | Progress::Blocked => Ok(None),
+    }
+}
+
+#[test]
+fn an_answer_has_each_branch_of_a_chain(rt: HostRuntime) -> Result<(), Fail> {
+    let alloc = rt.alloc();
+    let Some(Answer::Paths(found)) = answer_along(alloc, branched(alloc)?, 7)? else {
+        return Err("not found".into());
+    };
+    if found.len() != 2 {
+        return Err("not two paths".into());
+    }
+    let (long, short) = (found.at(0), found.at(1));
+    assert_eq!(rt; (long.path.len(), short.path.len()), (40, 20));
+    let (Some((end, last)), Some((middle, side))) = (
+        long.path.split_last(),
+        short.path.split_last(),
+    ) else {
+        return Err("a path with no step".into());
+    };
+    assert_eq!(rt; (end.end(), last.to), (scope(39), scope(101)));
+    assert_eq!(rt; (middle.end(), side.to), (scope(19), scope(100)));
+    assert_eq!(rt;
+        (long.path.start(), short.path.start()),
+        (scope(0), scope(0))
+    );
+    assert_eq!(rt; (*long.datum, *short.datum), (7, 7));
     Ok(())
 }

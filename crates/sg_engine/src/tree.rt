@@ -3,6 +3,7 @@ ghost use Rattle.std.specs.Arc.{arc_value};
 ghost use Rattle.std.specs.List.{Contains};
 ghost use Rattle.sg_base.specs.Label.{Has, Word};
 ghost use Rattle.sg_base.specs.List.{IsDistinct};
+ghost use Rattle.sg_base.specs.PathTree.{path_at};
 ghost use Rattle.sg_expr.specs.Positions.{Accepts, first_of};
 ghost use Rattle.sg_expr.specs.Tree.{ExprOf};
 ghost use Rattle.sg_expr.specs.Word.{In};
@@ -11,13 +12,13 @@ ghost use Rattle.sg_engine.specs.declared.work.Work.{Work as WorkOf};
 ghost use Rattle.sg_engine.specs.Front.{step_to};
 ghost use Rattle.sg_engine.specs.Growth.{Gains, into_targets, no_front};
 ghost use Rattle.sg_engine.specs.Nodes.{IsRestAfter};
-ghost use Rattle.sg_engine.specs.Tree.{path_at, paths_of, IsWorkOf, front_of, IsTree, IsFrontOf, ListsOn};
+ghost use Rattle.sg_engine.specs.Tree.{paths_of, IsWorkOf, front_of, IsTree, IsFrontOf, ListsOn};
 
-use crate::found_at::FoundAt;
 use crate::nodes::Nodes;
 use crate::work::Work;
 use sg_base::{Label, LabelSet, Scope, Step};
 use sg_expr::Positions;
+use sg_query::FoundAt;
 use std::alloc::{AllocError, Global};
 use std::sync::Arc;
 

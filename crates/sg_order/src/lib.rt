@@ -7,6 +7,7 @@
 pub mod laws;
 mod not_strict;
 mod order;
+mod place_before;
 mod relation;
 
 pub use not_strict::NotStrict;

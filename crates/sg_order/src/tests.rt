@@ -3,7 +3,7 @@
 ghost use Rattle.std.specs.Prelude.{◌≡◌, ◌<◌};
 
 use crate::Order;
-use sg_base::{Label, Mark, Path, Scope, Step};
+use sg_base::{Label, Mark, Path, PathTree, Scope, Step};
 use std::alloc::{AllocError, Global};
 use std::test::Fail;
 
@@ -69,6 +69,47 @@ fn paths_are_compared_where_they_part(rt: HostRuntime) -> Result<(), Fail> {
         let q = path(alloc, other, other_then)?;
         assert!(rt; p.start() == q.start());
         assert_eq!(rt; order.path_before(&p, &q), before);
+    }
+    Ok(())
+}
+
+#[test]
+fn places_are_compared_where_they_part(rt: HostRuntime) -> Result<(), Fail> {
+    let order = Order::new(&[(of(0), of(1)), (Mark::End, of(0))])
+        .ok()
+        .ok_or("not strict")?;
+    let mut tree = PathTree::new(rt.alloc(), Scope { unit: 0, serial: 0 });
+    for (parent, number, serial) in [
+        (0, 0, 1),
+        (0, 1, 2),
+        (0, 0, 3),
+        (1, 0, 4),
+        (1, 1, 5),
+        (3, 1, 6),
+        (2, 0, 7),
+    ] {
+        assert!(rt; parent < tree.len());
+        let label = Label::new(number);
+        let to = Scope { unit: 0, serial };
+        tree.push(parent, Step { label, to })?;
+    }
+    for (p, q, before) in [
+        (1, 2, true),
+        (2, 1, false),
+        (1, 3, false),
+        (0, 1, true),
+        (1, 0, false),
+        (1, 5, true),
+        (5, 1, false),
+        (4, 5, true),
+        (4, 6, false),
+        (5, 7, true),
+        (7, 5, false),
+        (4, 2, true),
+        (4, 4, false),
+    ] {
+        assert!(rt; p < tree.len() && q < tree.len());
+        assert!(rt; order.place_before(&tree, p, q) == before, "at {p} and {q}");
     }
     Ok(())
 }

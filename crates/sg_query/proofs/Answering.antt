@@ -65,9 +65,9 @@ module _ {P D : Type 0} (g : GraphOf D) (wants : P → D → Bool) (same : D →
         record { rising = rising; visible = visible_paths g (asked wants same kinds q) all r arrived left },
       )
 
--- paths that arrive have one start
-pub one_start : {D : Type 0} (g : GraphOf D) (e : ExprOf) (wants : D → Bool) (start : Scope) (all : List (Found D)) → AreArrived g e wants start all → (f h : Found D) → Contains all f → Contains all h → f.path.start ≡ h.path.start
-one_start g e wants start all holds f h c k = ((holds.arrived f).0 c).0 ∙ sym ((holds.arrived h).0 k).0
+-- paths that arrive begin at the start
+pub all_start : {D : Type 0} (g : GraphOf D) (e : ExprOf) (wants : D → Bool) (start : Scope) (all : List (Found D)) → AreArrived g e wants start all → (f : Found D) → Contains all f → f.path.start ≡ start
+all_start g e wants start all holds f c = ((holds.arrived f).0 c).0
 
 pub answers_are_one : (D : Type 0) → AnswersAreOne D
 answers_are_one D g q a b x y = one g q a b x y

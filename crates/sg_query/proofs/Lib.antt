@@ -13,4 +13,5 @@ pub mod Settling
 pub mod Shadowing
 pub mod Sorting
 pub mod Standing
+pub mod Trees
 pub mod Walking

@@ -41,3 +41,7 @@ unshadowed_moved same order all moved fs alike shown f = (
   (λ c. let k = (shown f).0 c in ((alike f).0 k.0, (λ s. k.1 (s.0, (alike s.0).1 s.1, s.2, s.3)))),
   (λ k. (shown f).1 ((alike f).1 k.0, (λ s. k.1 (s.0, (alike s.0).0 s.1, s.2, s.3)))),
 )
+
+-- and a list of the same paths holds them too
+pub unshadowed_alike : {D : Type 0} (same : D → D → Bool) (order : Mark → Mark → Bool) (all fs hs : List (Found D)) → ((f : Found D) → (Contains hs f) ↔ (Contains fs f)) → AreUnshadowed same order all fs → AreUnshadowed same order all hs
+unshadowed_alike same order all fs hs alike shown f = ((λ c. (shown f).0 ((alike f).0 c)), (λ k. (alike f).1 ((shown f).1 k)))

@@ -1,5 +1,6 @@
 pub mod Answer
 pub mod Example
+pub mod Found
 pub mod Growth
 pub mod Kinds
 pub mod Law

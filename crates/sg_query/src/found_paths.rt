@@ -1,15 +1,16 @@
-ghost use Rattle.std.specs.Prelude.{◌≡◌, IfOk};
+ghost use Rattle.std.specs.Prelude.{◌≡◌, ◌<◌, length, slice_index_or, IfOk};
 
-use crate::found::Found;
+use crate::found_tree::FoundTree;
+use crate::found_view::FoundView;
 use std::alloc::{AllocError, Global};
 use std::marker::Model;
 use std::sync::Arc;
 
-/// Paths that a query found, which contracts see as a list. Whoever keeps them shares one list, which lives as long as
-/// one of them does.
+/// Paths that a query found, which contracts see as a list. They share their fronts, and whoever keeps them shares one tree,
+/// which lives as long as one of them does.
 #[derive(Debug, Drop)]
 pub struct FoundPaths<D: Drop> {
-    paths: Arc<Vec<Found<D>>, Global>,
+    tree: Arc<FoundTree<D>, Global>,
 }
 
 impl<D: Drop> Model for FoundPaths<D> {
@@ -19,30 +20,44 @@ impl<D: Drop> Model for FoundPaths<D> {
 
     ghost Value = { List (Found D) };
 
-    ghost view = { λ f. (arc_value f.paths).items };
+    ghost view = { λ f. (arc_value f.tree).found };
 }
 
 impl<D: Drop> FoundPaths<D> {
     /// These paths, which are moved. Takes memory for a count, whatever their number.
-    pub fn new(alloc: Global, paths: Vec<Found<D>>) -> Result<FoundPaths<D>, AllocError>
-        ensures { IfOk result (λ r. r ≡ paths.items) }
+    pub fn new(alloc: Global, tree: FoundTree<D>) -> Result<FoundPaths<D>, AllocError>
+        ensures { IfOk result (λ r. r ≡ tree.found) }
     {
-        let paths = Arc::new(alloc, paths)?;
-        Ok(FoundPaths { paths })
+        let tree = Arc::new(alloc, tree)?;
+        Ok(FoundPaths { tree })
     }
 
-    /// The paths, first to last.
-    pub fn as_slice(&self) -> &[Found<D>]
-        ensures { result.now ≡ self.now }
+    /// How many paths there are.
+    pub fn len(&self) -> usize
+        ensures { result ≡ length self.now }
     {
-        self.paths.as_slice()
+        let tree = &*self.tree;
+        tree.found.len()
+    }
+
+    /// The path at an index, with its datum.
+    pub fn at(&self, k: usize) -> FoundView<'_, D>
+        requires { k < length self.now }
+        ensures { result ≡ slice_index_or self.now k result }
+    {
+        let tree = &*self.tree;
+        let found = &tree.found[k];
+        FoundView {
+            path: tree.paths.path(found.place),
+            datum: &found.datum,
+        }
     }
 
     /// The same paths once more, which costs a count: no path is copied. An error where too many share them.
     pub fn share(&self) -> Result<FoundPaths<D>, AllocError>
         ensures { IfOk result (λ r. r ≡ self.now) }
     {
-        let paths = Arc::try_clone(&self.paths)?;
-        Ok(FoundPaths { paths })
+        let tree = Arc::try_clone(&self.tree)?;
+        Ok(FoundPaths { tree })
     }
 }

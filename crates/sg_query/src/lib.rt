@@ -7,10 +7,14 @@
 
 mod answer;
 mod found;
+mod found_at;
 mod found_paths;
+mod found_tree;
+mod found_view;
 mod going;
 mod kind;
 mod kind_table;
+mod laid_out;
 pub mod laws;
 mod most_paths;
 mod plain;
@@ -23,7 +27,10 @@ mod walk;
 
 pub use answer::Answer;
 pub use found::Found;
+pub use found_at::FoundAt;
 pub use found_paths::FoundPaths;
+pub use found_tree::FoundTree;
+pub use found_view::FoundView;
 pub use kind::Kind;
 pub use kind_table::KindTable;
 pub use most_paths::MOST_PATHS;

@@ -6,6 +6,7 @@ ghost use Rattle.sg_query.specs.Query.{asked};
 use crate::answer::Answer;
 use crate::found_paths::FoundPaths;
 use crate::kind_table::KindTable;
+use crate::laid_out::laid_out;
 use crate::query::Query;
 use crate::shadow::visible_of;
 use crate::walk::Walk;
@@ -38,8 +39,8 @@ pub fn ans_plain<I: Instance>(
     match walk.arrived()? {
         None => Ok(Answer::TooMany),
         Some(all) => {
-            let visible = visible_of::<I>(alloc, &kind.order, all)?;
-            Ok(Answer::Paths(FoundPaths::new(alloc, visible)?))
+            let tree = laid_out(alloc, q.start, all)?;
+            Ok(Answer::Paths(visible_of::<I>(alloc, &kind.order, tree)?))
         }
     }
 }

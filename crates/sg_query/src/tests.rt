@@ -1,7 +1,7 @@
 //! Answers in small graphs, worked out by hand.
 
 use crate::{Answer, Kind, KindTable, Query, ans_plain, copy_query};
-use sg_base::{Graph, Instance, Label, Mark, Scope, Step};
+use sg_base::{Graph, Instance, Label, Mark, PathView, Scope};
 use sg_expr::Expr;
 use sg_order::Order;
 use std::alloc::{AllocError, Global};
@@ -142,17 +142,36 @@ fn has_paths(answer: &Answer<u64>, paths: &[(&[(u8, u32)], u64)]) -> bool {
     match answer {
         Answer::TooMany => false,
         Answer::Paths(found) => {
-            let found = found.as_slice();
-            let mut each = found.iter().zip(paths.iter());
-            found.len() == paths.len()
-                && each.all(|(f, p)| are_steps(f.path.steps(), p.0) && f.datum == p.1)
+            if found.len() != paths.len() {
+                return false;
+            }
+            for k in 0..found.len() {
+                let f = found.at(k);
+                let (steps, datum) = paths[k];
+                if *f.datum != datum || !are_steps(&f.path, steps) {
+                    return false;
+                }
+            }
+            true
         }
     }
 }
 
-fn are_steps(steps: &[Step], wanted: &[(u8, u32)]) -> bool {
-    let mut each = steps.iter().zip(wanted.iter());
-    steps.len() == wanted.len() && each.all(|(s, w)| s.label.number() == w.0 && s.to == scope(w.1))
+/// Whether a path has these steps.
+fn are_steps(path: &PathView, wanted: &[(u8, u32)]) -> bool {
+    let mut at = path.copy();
+    for (number, serial) in wanted.iter().rev() {
+        match at.split_last() {
+            None => return false,
+            Some((before, step)) => {
+                if step.label.number() != *number || step.to != scope(*serial) {
+                    return false;
+                }
+                at = before;
+            }
+        }
+    }
+    at.len() == 0
 }
 
 /// Any number of labels 1, and then a label 0.
@@ -292,7 +311,7 @@ fn more_than_4096_paths_are_too_many(rt: HostRuntime) -> Result<(), Fail> {
         let graph = diamonds(alloc, further)?;
         let zeros = Expr::Star(Box::new(alloc, Expr::One(Label::new(0)))?);
         let found = match answer(alloc, &graph, zeros, &[], Wanted::Is(7))? {
-            Answer::Paths(found) => Some(found.as_slice().len()),
+            Answer::Paths(found) => Some(found.len()),
             Answer::TooMany => None,
         };
         assert_eq!(rt; found, fits.then_some(512), "with {further} further edges");

@@ -5,5 +5,5 @@ use Rattle.jv_names.specs.Read.{one_ctor}
 use Rattle.jv_names.proofs.ReadSteps.{ctor_from}
 use Rattle.jv_names.proofs.read.one_ctor.Given as goal
 
-abbrev pub invariant-loop-found : goal.invariant-loop-found
-invariant-loop-found l = one_ctor l.l (counted_ends l.l Constructors l.fn.paths) ≡ ctor_from l.l l.first (counted_ends l.l Constructors (drop l.found-index l.paths))
+abbrev pub invariant-loop-k : goal.invariant-loop-k
+invariant-loop-k l = one_ctor l.l (counted_ends l.l Constructors l.paths) ≡ ctor_from l.l l.first (counted_ends l.l Constructors (drop l.k l.paths))

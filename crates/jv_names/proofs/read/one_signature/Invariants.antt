@@ -5,6 +5,6 @@ use Rattle.jv_names.specs.Read.{one_signature}
 use Rattle.jv_names.proofs.ReadSteps.{signature_from}
 use Rattle.jv_names.proofs.read.one_signature.Given as goal
 
-abbrev pub invariant-loop-found : goal.invariant-loop-found
-invariant-loop-found l =
-    one_signature l.l (filter (λ f. fits l.l f.path) l.fn.paths) ≡ signature_from l.l l.first (filter (λ f. fits l.l f.path) (drop l.found-index l.paths))
+abbrev pub invariant-loop-k : goal.invariant-loop-k
+invariant-loop-k l =
+    one_signature l.l (filter (λ f. fits l.l f.path) l.paths) ≡ signature_from l.l l.first (filter (λ f. fits l.l f.path) (drop l.k l.paths))

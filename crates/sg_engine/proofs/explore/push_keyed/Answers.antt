@@ -2,10 +2,11 @@ use Rattle.std.proofs.Common.{◌≡◌, ◌++◌, ◌∷◌, [], refl, sym, ap,
 use Rattle.sg_base.specs.declared.scope.Scope.{Scope}
 use Rattle.sg_base.specs.declared.step.Step.{Step}
 use Rattle.sg_base.specs.Path.{end_of, word_of}
+use Rattle.sg_base.specs.PathTree.{path_at}
 use Rattle.sg_expr.specs.Tree.{ExprOf}
 use Rattle.sg_expr.specs.Word.{IsContinuable}
 use Rattle.sg_engine.specs.Keyed.{wanting_by}
-use Rattle.sg_engine.specs.Tree.{path_at, paths_of, front_of}
+use Rattle.sg_engine.specs.Tree.{paths_of, front_of}
 use Rattle.sg_engine.proofs.Growing.{gains_two, place_kept}
 use Rattle.sg_engine.proofs.Keying.{keyed_targets, ends_behind}
 use Rattle.sg_engine.proofs.Resting.{after_kept}

@@ -1,11 +1,12 @@
-use Rattle.std.proofs.Common.{◌≡◌, ◌++◌, ◌∷◌, [], List, ℕ, ◌⊎◌, Some, inl, inr, refl, sym, ap, ◌∙◌, subst}
+use Rattle.std.proofs.Common.{◌≡◌, ◌++◌, ◌∷◌, [], List, ℕ, ◌⊎◌, Some, inl, inr, sym, ap, ◌∙◌, subst}
 use Rattle.sg_base.specs.declared.scope.Scope.{Scope}
 use Rattle.sg_base.specs.Graph.{row_of}
 use Rattle.sg_base.specs.Path.{end_of, word_of}
+use Rattle.sg_base.specs.PathTree.{path_at}
 use Rattle.sg_expr.specs.Tree.{ExprOf}
 use Rattle.sg_expr.specs.Word.{IsContinuable}
 use Rattle.sg_engine.specs.Keyed.{wanting_by, AreKeyedTargets}
-use Rattle.sg_engine.specs.Tree.{path_at, paths_of}
+use Rattle.sg_engine.specs.Tree.{paths_of}
 use Rattle.sg_engine.proofs.Keying.{whole_row, goes_behind, on_ok}
 use Rattle.sg_engine.proofs.Resting.{there_is}
 use Rattle.sg_engine.proofs.explore.push_row.Goals as goal

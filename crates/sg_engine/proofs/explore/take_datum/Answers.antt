@@ -3,13 +3,14 @@ use Rattle.sg_base.specs.declared.scope.Scope.{Scope}
 use Rattle.sg_base.specs.declared.step.Step.{Step}
 use Rattle.sg_base.specs.Graph.{HasDatum}
 use Rattle.sg_base.specs.Path.{end_of}
+use Rattle.sg_base.specs.PathTree.{path_at}
 use Rattle.sg_base.specs.State.{IsUnset}
 use Rattle.sg_base.proofs.Edges.{one_datum}
+use Rattle.sg_query.specs.declared.found_at.FoundAt.{FoundAt}
 use Rattle.sg_state.specs.Held.{state_of}
 use Rattle.sg_state.proofs.Extending.{unset_from}
-use Rattle.sg_engine.specs.declared.found_at.FoundAt.{FoundAt}
 use Rattle.sg_engine.specs.declared.work.Work.TheVariants.{Whole}
-use Rattle.sg_engine.specs.Tree.{path_at, paths_of}
+use Rattle.sg_engine.specs.Tree.{paths_of}
 use Rattle.sg_engine.proofs.Listing.{front_same, front_more}
 use Rattle.sg_engine.proofs.Stepping.{step_whole, reads_none, reads_one, each_push, tree_took}
 use Rattle.sg_engine.proofs.Taking.{aside_tree, aside_stands}

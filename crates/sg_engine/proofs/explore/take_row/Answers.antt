@@ -3,11 +3,12 @@ use Rattle.sg_base.specs.declared.scope.Scope.{Scope}
 use Rattle.sg_base.specs.declared.step.Step.{Step}
 use Rattle.sg_base.specs.Graph.{row_of}
 use Rattle.sg_base.specs.Path.{end_of}
+use Rattle.sg_base.specs.PathTree.{path_at}
 use Rattle.sg_base.specs.State.{IsOpen}
 use Rattle.sg_state.specs.Held.{state_of}
 use Rattle.sg_engine.specs.declared.work.Work.TheVariants.{Next}
 use Rattle.sg_engine.specs.Keyed.{wanting_by}
-use Rattle.sg_engine.specs.Tree.{path_at, paths_of, front_of, front_on}
+use Rattle.sg_engine.specs.Tree.{paths_of, front_of, front_on}
 use Rattle.sg_engine.proofs.Keying.{passes_more}
 use Rattle.sg_engine.proofs.Stepping.{step_next, tree_took}
 use Rattle.sg_engine.proofs.Taking.{aside_tree, aside_stands}

@@ -1,5 +1,4 @@
 use Rattle.std.proofs.Common.{arith}
-use Rattle.sg_state.specs.Held.{state_of}
 use Rattle.sg_engine.specs.Keyed.{wanting_by}
 use Rattle.sg_engine.proofs.Listing.{lists_chain}
 use Rattle.sg_engine.proofs.Running.{looked_search}

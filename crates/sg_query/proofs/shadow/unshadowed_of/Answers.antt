@@ -1,46 +1,69 @@
-use Rattle.std.proofs.Common.{◌≡◌, List, Bool, sym, ap, ◌∙◌, subst, length}
-use Rattle.std.specs.List.{Contains}
+use Rattle.std.proofs.Common.{◌≡◌, ◌<◌, List, Bool, map, sym, ap, ◌∙◌, subst, length}
+use Rattle.std.proofs.lemmas.List.{length-map}
+use Rattle.std.proofs.lemmas.List.Sorted.{IsPermutation-map}
+use Rattle.sg_base.specs.List.{IsDistinct}
 use Rattle.sg_order.specs.Order.{precedes}
 use Rattle.sg_query.specs.declared.found.Found.{Found}
+use Rattle.sg_query.specs.declared.found_at.FoundAt.{FoundAt}
+use Rattle.sg_query.specs.Found.{found_in, AreThere}
 use Rattle.sg_query.specs.Marks.{AreMarked, unmarked}
 use Rattle.sg_query.specs.Walk.{Gathers}
 use Rattle.sg_query.proofs.Marking.{marked_length, marked_gathers}
 use Rattle.sg_query.proofs.Shadowing.{IsShown, shown_once, shown_all, unshadowed_moved}
+use Rattle.sg_query.proofs.Sorting.{distinct_sorted}
+use Rattle.sg_query.proofs.Trees.{alike_moved, there_moved, unmarked_each, unmarked_map}
 use Rattle.sg_query.proofs.shadow.unshadowed_of.Goals as goal
 
-pub marks_of-requires-clause-starts : goal.marks_of-requires-clause-starts
-marks_of-requires-clause-starts g c = λ f h a b.
-    let there : (x : Found g.row.I-Datum.Denot) → Contains c.as_slice.result.now x → Contains c.args.all.items x =
-    λ x k. (c.by_key-keyed.ensures.same x).0 (subst (λ (t : List (Found g.row.I-Datum.Denot)). Contains t x) c.as_slice.ensures.value k) in
-    c.requires.starts f h (there f a) (there h b)
+pub returns-then-is_empty-clause-unshadowed : goal.returns-then-is_empty-clause-unshadowed
+returns-then-is_empty-clause-unshadowed g c = λ f. ((λ k. (k, (λ s. c.is_empty.ensures.0 c.if-is_empty.true _ _ (s.3).6))), (λ k. k.0))
+
+pub marks_of-requires-clause-there : goal.marks_of-requires-clause-there
+marks_of-requires-clause-there g c =
+    subst (λ (t : List (FoundAt g.row.I-Datum.Denot)). AreThere c.args.paths.now t) (sym c.as_slice.ensures.value)
+    (there_moved c.args.paths.now c.args.all.items c.by_key-keyed.result.items c.by_key-keyed.ensures.same c.requires.there)
 
 pub without_marked-requires : goal.without_marked-requires
 without_marked-requires g c =
     let keyed = c.by_key-keyed.result.items in
+    let found = found_in c.args.paths.now in
     let marks = c.in_ok-shadowed.shadowed.items in
     let same = g.I.Instance.same_datum in
     let order = precedes c.args.order.now in
-    let marked : AreMarked same order keyed keyed marks = subst (λ (t : List (Found g.row.I-Datum.Denot)). AreMarked same order t t marks) c.as_slice.ensures.value c.in_ok-shadowed.ensures in
-    ap length c.as_slice-2.ensures.value ∙ marked_length same order keyed keyed marks marked
+    let marked : AreMarked same order (map found keyed) (map found keyed) marks = subst (λ (t : List (FoundAt g.row.I-Datum.Denot)). AreMarked same order (map found t) (map found t) marks) c.as_slice.ensures.value c.in_ok-shadowed.ensures in
+    ap length c.as_slice-2.ensures.value ∙ (marked_length same order (map found keyed) (map found keyed) marks marked ∙ length-map keyed found)
+
+pub returns-clause-there : goal.returns-clause-there
+returns-clause-there g c =
+    let t = c.args.paths.now in
+    let keyed = c.by_key-keyed.result.items in
+    let marks = c.in_ok-shadowed.shadowed.items in
+    let left : c.in_ok-without_marked.field-0.items ≡ unmarked keyed marks = c.in_ok-without_marked.ensures ∙ ap (λ (bs : List Bool). unmarked keyed bs) c.as_slice-2.ensures.value in
+    subst (λ (fs : List (FoundAt g.row.I-Datum.Denot)). AreThere t fs) (sym left)
+    (unmarked_each (λ (f : FoundAt g.row.I-Datum.Denot). f.place < length t.paths) keyed marks (there_moved t c.args.all.items keyed c.by_key-keyed.ensures.same c.requires.there))
 
 pub returns-clause-once : goal.returns-clause-once
 returns-clause-once g c =
     let keyed = c.by_key-keyed.result.items in
+    let found = found_in c.args.paths.now in
     let marks = c.in_ok-shadowed.shadowed.items in
     let same = g.I.Instance.same_datum in
     let order = precedes c.args.order.now in
-    let marked : AreMarked same order keyed keyed marks = subst (λ (t : List (Found g.row.I-Datum.Denot)). AreMarked same order t t marks) c.as_slice.ensures.value c.in_ok-shadowed.ensures in
-    let left : c.in_ok-without_marked.field-0.items ≡ unmarked keyed marks = c.in_ok-without_marked.ensures ∙ ap (λ (t : List Bool). unmarked keyed t) c.as_slice-2.ensures.value in
-    let shown = subst (λ (t : List (Found g.row.I-Datum.Denot)). Gathers (IsShown same order keyed) keyed t) (sym left) (marked_gathers same order keyed keyed marks marked) in
-    shown_once same order keyed keyed c.in_ok-without_marked.field-0.items shown c.by_key-keyed.ensures.once
+    let marked : AreMarked same order (map found keyed) (map found keyed) marks = subst (λ (t : List (FoundAt g.row.I-Datum.Denot)). AreMarked same order (map found t) (map found t) marks) c.as_slice.ensures.value c.in_ok-shadowed.ensures in
+    let left : map found c.in_ok-without_marked.field-0.items ≡ unmarked (map found keyed) marks = ap (map found) (c.in_ok-without_marked.ensures ∙ ap (λ (bs : List Bool). unmarked keyed bs) c.as_slice-2.ensures.value) ∙ unmarked_map found keyed marks in
+    subst (λ (t : List (Found g.row.I-Datum.Denot)). IsDistinct (map (λ f. f.path) t)) (sym left)
+    (shown_once same order (map found keyed) (map found keyed) (unmarked (map found keyed) marks) (marked_gathers same order (map found keyed) (map found keyed) marks marked)
+    (distinct_sorted (map found c.args.all.items) (map found keyed) (IsPermutation-map found c.args.all.items keyed c.by_key-keyed.ensures.same) c.requires.once))
 
 pub returns-clause-unshadowed : goal.returns-clause-unshadowed
 returns-clause-unshadowed g c =
     let keyed = c.by_key-keyed.result.items in
+    let found = found_in c.args.paths.now in
     let marks = c.in_ok-shadowed.shadowed.items in
     let same = g.I.Instance.same_datum in
     let order = precedes c.args.order.now in
-    let marked : AreMarked same order keyed keyed marks = subst (λ (t : List (Found g.row.I-Datum.Denot)). AreMarked same order t t marks) c.as_slice.ensures.value c.in_ok-shadowed.ensures in
-    let left : c.in_ok-without_marked.field-0.items ≡ unmarked keyed marks = c.in_ok-without_marked.ensures ∙ ap (λ (t : List Bool). unmarked keyed t) c.as_slice-2.ensures.value in
-    let shown = subst (λ (t : List (Found g.row.I-Datum.Denot)). Gathers (IsShown same order keyed) keyed t) (sym left) (marked_gathers same order keyed keyed marks marked) in
-    unshadowed_moved same order c.args.all.items keyed c.in_ok-without_marked.field-0.items c.by_key-keyed.ensures.same (shown_all same order keyed c.in_ok-without_marked.field-0.items shown)
+    let marked : AreMarked same order (map found keyed) (map found keyed) marks = subst (λ (t : List (FoundAt g.row.I-Datum.Denot)). AreMarked same order (map found t) (map found t) marks) c.as_slice.ensures.value c.in_ok-shadowed.ensures in
+    let left : map found c.in_ok-without_marked.field-0.items ≡ unmarked (map found keyed) marks = ap (map found) (c.in_ok-without_marked.ensures ∙ ap (λ (bs : List Bool). unmarked keyed bs) c.as_slice-2.ensures.value) ∙ unmarked_map found keyed marks in
+    let shown : Gathers (IsShown same order (map found keyed)) (map found keyed) (map found c.in_ok-without_marked.field-0.items) = subst (λ (t : List (Found g.row.I-Datum.Denot)). Gathers (IsShown same order (map found keyed)) (map found keyed) t) (sym left) (marked_gathers same order (map found keyed) (map found keyed) marks marked) in
+    unshadowed_moved same order (map found c.args.all.items) (map found keyed) (map found c.in_ok-without_marked.field-0.items)
+    (alike_moved found c.args.all.items keyed c.by_key-keyed.ensures.same)
+    (shown_all same order (map found keyed) (map found c.in_ok-without_marked.field-0.items) shown)

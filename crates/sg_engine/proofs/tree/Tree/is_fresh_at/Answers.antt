@@ -1,7 +1,8 @@
 use Rattle.std.proofs.Common.{◌≡◌, not, sym, ◌∙◌}
+use Rattle.sg_base.specs.PathTree.{path_at}
 use Rattle.sg_base.specs.Scope.{is_scope}
 use Rattle.sg_query.specs.Steps.{is_fresh}
-use Rattle.sg_engine.specs.Tree.{path_at, paths_of, left_of}
+use Rattle.sg_engine.specs.Tree.{paths_of, left_of}
 use Rattle.sg_engine.proofs.Passing.{fresh_elsewhere}
 use Rattle.sg_engine.proofs.tree.Tree.is_fresh_at.Goals as goal
 

@@ -1,6 +1,7 @@
 use Rattle.std.proofs.Common.{◌≡◌, ◌<◌, length}
+use Rattle.sg_base.specs.PathTree.{path_at}
 use Rattle.sg_query.specs.Steps.{is_fresh}
-use Rattle.sg_engine.specs.Tree.{path_at, paths_of}
+use Rattle.sg_engine.specs.Tree.{paths_of}
 use Rattle.sg_engine.proofs.tree.Tree.is_fresh_at.Given as goal
 
 abbrev pub invariant-loop-k : goal.invariant-loop-k

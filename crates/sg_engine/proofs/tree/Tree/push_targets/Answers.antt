@@ -1,9 +1,10 @@
 use Rattle.std.proofs.Common.{◌≡◌, refl, sym, ◌∙◌, true, false, ℕ, take, List, slice_index_or}
 use Rattle.sg_base.specs.declared.scope.Scope.{Scope}
 use Rattle.std.proofs.lemmas.List.{take_all}
+use Rattle.sg_base.specs.PathTree.{path_at}
 use Rattle.sg_query.specs.Steps.{is_fresh}
 use Rattle.sg_engine.specs.Growth.{into_targets}
-use Rattle.sg_engine.specs.Tree.{path_at, paths_of}
+use Rattle.sg_engine.specs.Tree.{paths_of}
 use Rattle.sg_engine.specs.Tree.{front_of}
 use Rattle.sg_engine.proofs.Exploring.{gains_none}
 use Rattle.sg_engine.proofs.Listing.{lists_same, lists_chain}

@@ -1,7 +1,8 @@
 use Rattle.std.proofs.Common.{◌≡◌, take}
+use Rattle.sg_base.specs.PathTree.{path_at}
 use Rattle.sg_expr.specs.Tree.{ExprOf}
 use Rattle.sg_engine.specs.Growth.{Gains, into_targets}
-use Rattle.sg_engine.specs.Tree.{path_at, paths_of}
+use Rattle.sg_engine.specs.Tree.{paths_of}
 use Rattle.sg_engine.specs.Tree.{front_of, IsTree, ListsOn}
 use Rattle.sg_engine.proofs.tree.Tree.push_targets.Given as goal
 

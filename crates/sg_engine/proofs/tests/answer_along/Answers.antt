@@ -1,4 +1,4 @@
-use Rattle.bench_search.proofs.search_paths.Goals as goal
+use Rattle.sg_engine.proofs.tests.answer_along.Goals as goal
 
 pub advance_on-requires-clause-stands : goal.advance_on-requires-clause-stands
 advance_on-requires-clause-stands c = rw c.in_ok-search.ensures.query (c.in_ok-search.ensures.stands _)

@@ -1,0 +1,20 @@
+-- Paths that were found, by their places in a tree of paths.
+use Rattle.std.specs.Prelude.{◌<◌, List, length}
+use Rattle.std.specs.List.{AllByRecursion}
+use Rattle.sg_base.specs.declared.scope.Scope.{Scope}
+use Rattle.sg_base.specs.PathTree.{PathTreeOf, path_in}
+use Rattle.sg_query.specs.declared.found.Found.{Found}
+use Rattle.sg_query.specs.declared.found_at.FoundAt.{FoundAt}
+
+-- where the paths start, and each path with its datum
+pub record FoundTreeOf (D : Type 0) : Type 0 where
+  pub start : Scope
+  pub found : List (Found D)
+
+-- the path at a place of a tree, with its datum
+abbrev pub found_in : {D : Type 0} → PathTreeOf → FoundAt D → Found D
+found_in t f = record { path = path_in t f.place; datum = f.datum }
+
+-- each place is one of the tree
+abbrev pub AreThere : {D : Type 0} → PathTreeOf → List (FoundAt D) → Type 0
+AreThere t fs = AllByRecursion (λ f. f.place < length t.paths) fs
