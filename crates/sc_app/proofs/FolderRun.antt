@@ -6,11 +6,14 @@ use Rattle.sg_script.specs.Owing.{OwesEdge, OwesDatum, AsksIn, ComesTo}
 use Rattle.sg_core.specs.Over.{HasRun}
 use Rattle.sg_state.specs.Held.{HeldOf}
 use Rattle.sg_state.specs.Opening.{IsSoundOpening, OpeningOf, opened_of}
+use Rattle.sg_unit.specs.declared.entry.Entry.{Entry}
 use Rattle.sg_unit.specs.Own.{own}
 use Rattle.sg_unit.specs.Served.{IsHonestBy}
 use Rattle.sg_unit.specs.Trace.{told}
+use Rattle.jv_diag.specs.Plain.{DiagOf}
 use Rattle.jv_instance.specs.declared.datum.JavaDatum.{JavaDatum}
 use Rattle.jv_instance.specs.declared.java.Java.{Java}
+use Rattle.jv_instance.specs.declared.pred.JavaPred.{JavaPred}
 use Rattle.jv_instance.specs.Data.{is_wanted}
 use Rattle.jv_layout.specs.Folder.{LayoutOf, layout_of}
 use Rattle.jv_layout.specs.Linked.{IsLinked}
@@ -28,7 +31,9 @@ use Rattle.jv_unit.specs.Kept.{IsWhole}
 use Rattle.jv_unit.specs.Plans.{JavaPlan, java_plan}
 use Rattle.jv_unit.specs.Scripts.{JavaUnit, plan_of, AreNewUnits, AreUnitsOf, IsUnit}
 use Rattle.jv_unit.proofs.NewUnits.{units_are_new}
-use Rattle.sc_app.specs.FolderRun.{AreNumbered, FollowsBy, IsBegun, JavaCore, IsFolderRun, same_datum, setting_of_plan}
+use Rattle.sg_core.specs.Core.{run}
+use Rattle.sg_serial.specs.Serial.{IsServedBy}
+use Rattle.sc_app.specs.FolderRun.{AreNumbered, FollowsBy, IsBegun, JavaCore, IsFolderRun, IsServedIn, same_datum, setting_of_plan}
 
 module _ (l : LayoutOf) (names : List (List ℕ)) (us : List UnitTree) (layout : l ≡ layout_of names us) (folder : IsFolder us) where
   linked : IsLinked l
@@ -95,6 +100,19 @@ begun w us units c o kinds core opening table =
 -- and what comes of them
 pub begun_runs : {E : Type 0} (w : FolderOf) (us : List JavaUnit) (old : JavaCore) (r : Result JavaCore E) → IsBegun w old us → IfOk r (HasRunOf old us) → IfOk r (IsFolderRun w)
 begun_runs w us old r b h = if_ok (HasRunOf old us) (IsFolderRun w) r (λ c ran. folder_runs w us b.units old c b.opening b.kinds ran) h
+
+-- and in which order they were served
+pub begun_served : {E : Type 0} (w : FolderOf) (us : List JavaUnit) (old : JavaCore) (r : Result JavaCore E) (order : List ℕ) → IsBegun w old us → IfOk r (HasRunOf old us) → IfOk r (λ c. IsServedBy (run is_wanted same_datum old) order c.log) → IfOk r (IsServedIn order)
+begun_served w us old (Ok c) order b ran served =
+    let start : old ≡ record { opening = c.opening; kinds = c.kinds; log = [] } = same_start old c.opening c.kinds (sym ran.opening) (sym ran.kinds) b.log in
+    subst (λ (k : JavaCore). IsServedBy (run is_wanted same_datum k) order c.log) start served
+  where
+    same_start : (k : JavaCore) (o : HeldOf JavaDatum) (t : List KindOf) → k.opening ≡ o → k.kinds ≡ t → k.log ≡ [] → k ≡ record { opening = o; kinds = t; log = [] }
+    same_start k o t e f g =
+        ap (λ (x : HeldOf JavaDatum). let s : JavaCore = record { opening = x; kinds = k.kinds; log = k.log } in s) e
+        ∙ ap (λ (x : List KindOf). let s : JavaCore = record { opening = o; kinds = x; log = k.log } in s) f
+        ∙ ap (λ (x : List (Entry Java (List DiagOf) JavaDatum JavaPred)). let s : JavaCore = record { opening = o; kinds = t; log = x } in s) g
+begun_served w us old (Err e) order b ran served = tt
 
 -- the opening of a folder is sound
 pub opening_of_folder : (w : Folder) (o : OpeningOf JavaDatum) → IsWhole w → o ≡ skeleton_of w.layout → IsSoundOpening o

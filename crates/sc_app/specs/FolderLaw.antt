@@ -46,6 +46,7 @@ abbrev pub LeavesGreatest : FolderOf → JavaCore → GraphOf JavaDatum → (Sco
 LeavesGreatest w c g row =
     IsSkeleton (ruled w) g × Leaves (headers_of (ruled w) g) (setting is_wanted same_datum c) (roles_of w.layout) (run is_wanted same_datum c) (closed_in c) row
 
+-- each run of a folder leaves the greatest set, over some graph and with some rows
 abbrev pub FolderRunsLeaveGreatest : Type 0
 FolderRunsLeaveGreatest =
     (w : FolderOf) (c : JavaCore) → IsFolderOf w → IsFolderRun w c → (g : GraphOf JavaDatum) × (row : Scope → List Scope) × LeavesGreatest w c g row
@@ -95,6 +96,7 @@ pub record IsHeldByHeaders (w : FolderOf) (c : JavaCore) (g : GraphOf JavaDatum)
       → IsCircular (WasTold (past_of w c t)) w.layout w.names (type_scope w.layout t) (extends_of (decl_at w.files t) ++ implements_of (decl_at w.files t)) needed d
       → SaysCircular (ruled w) g (state_with (headers_of (ruled w) g) (closed_in c) row) (type_scope w.layout t) d
 
+-- where a run left the greatest set, each type whose row is not closed is held by its header in this way
 abbrev pub StuckRunsReport : Type 0
 StuckRunsReport =
     (w : FolderOf) (c : JavaCore) (g : GraphOf JavaDatum) (row : Scope → List Scope) (t : ℕ) → IsFolderOf w → IsFolderRun w c → LeavesGreatest w c g row

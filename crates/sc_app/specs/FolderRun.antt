@@ -9,6 +9,7 @@ use Rattle.sg_script.specs.declared.write.Write.{Write}
 use Rattle.sg_script.specs.Following.{FollowsPlan}
 use Rattle.sg_script.specs.Owing.{OwesEdge, OwesDatum, AsksIn, ComesTo}
 use Rattle.sg_script.specs.Script.{setting_by}
+use Rattle.sg_serial.specs.Serial.{IsServedBy}
 use Rattle.sg_state.specs.Opening.{opened_of}
 use Rattle.sg_unit.specs.Own.{own}
 use Rattle.sg_unit.specs.Run.{Setting}
@@ -36,9 +37,11 @@ AreNumbered n us = (u : UnitTree) → Contains us u → IsNumbered n u
 abbrev pub same_datum : JavaDatum → JavaDatum → Bool
 same_datum a b = name_of a == name_of b
 
+-- a core of Java's units
 abbrev pub JavaCore : Type 0
 JavaCore = CoreOf Java (List DiagOf) JavaDatum JavaPred
 
+-- the setting of a plan's run, with Java's ways to compare data
 abbrev pub setting_of_plan : JavaPlan → Setting JavaDatum JavaPred
 setting_of_plan p = setting_by is_wanted same_datum p
 
@@ -74,3 +77,7 @@ pub record IsFolderRun (w : FolderOf) (c : JavaCore) : Type 0 where
 -- a folder without its table of kinds, at which no rule looks
 abbrev pub ruled : FolderOf → FolderOf
 ruled w = record { layout = w.layout; names = w.names; files = w.files; kinds = [] }
+
+-- the entries of a run's log are made in this order: first each number's unit makes one, where it can, and then the least unit that can
+abbrev pub IsServedIn : List ℕ → JavaCore → Type 0
+IsServedIn order c = let start : JavaCore = record { opening = c.opening; kinds = c.kinds; log = [] } in IsServedBy (run is_wanted same_datum start) order c.log

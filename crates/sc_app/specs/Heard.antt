@@ -19,18 +19,23 @@ use Rattle.sc_app.specs.declared.heard.Heard.{Heard}
 
 -- ---- the log of a run of Java's units
 
+-- an operation of one of Java's units
 abbrev pub JavaOp : Type 0
 JavaOp = Op Java (List DiagOf) JavaDatum JavaPred
 
+-- a reply to such an operation
 abbrev pub JavaReply : Type 0
 JavaReply = Reply Java JavaDatum JavaPred
 
+-- an entry of the log of such a run
 abbrev pub JavaEntry : Type 0
 JavaEntry = Entry Java (List DiagOf) JavaDatum JavaPred
 
+-- operations that such a unit gave, each with the reply that it was handed
 abbrev pub JavaPast : Type 0
 JavaPast = Past Java (List DiagOf) JavaDatum JavaPred
 
+-- what such a unit gave and was told
 abbrev pub JavaTrace : Type 0
 JavaTrace = Trace Java (List DiagOf) JavaDatum JavaPred
 

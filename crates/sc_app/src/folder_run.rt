@@ -6,7 +6,7 @@ ghost use Rattle.jv_layout.specs.Folder.{layout_of};
 ghost use Rattle.jv_layout.specs.Sizes.{IsFolder};
 ghost use Rattle.jv_tree.specs.DeclTree.{tree_of};
 ghost use Rattle.jv_unit.specs.Kept.{folder_of, IsWhole};
-ghost use Rattle.sc_app.specs.FolderRun.{AreNumbered, IsBegun, IsFolderRun};
+ghost use Rattle.sc_app.specs.FolderRun.{AreNumbered, IsBegun, IsFolderRun, IsServedIn};
 
 use crate::followers::run_followers;
 use jv_diag::DiagList;
@@ -118,7 +118,8 @@ pub(crate) fn run_in_order(
 ) -> Result<Core<Java, DiagList>, AllocError>
     requires whole { IsWhole (arc_value folder.now) }
     requires kinds { kinds ≡ (folder_of (arc_value folder.now)).kinds }
-    ensures { IfOk result (IsFolderRun (folder_of (arc_value folder.now))) }
+    ensures run { IfOk result (IsFolderRun (folder_of (arc_value folder.now))) }
+    ensures served { IfOk result (IsServedIn order.now) }
 {
     let begun = begin(alloc, folder, kinds)?;
     run_serial::<JavaUnit>(alloc, begun.core, begun.units, order)

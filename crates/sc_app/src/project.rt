@@ -1,6 +1,6 @@
 //! What the sources of a folder come to.
 
-ghost use Rattle.std.specs.Prelude.{◌≡◌, ◌≤◌, IfErr, IfOk, length};
+ghost use Rattle.std.specs.Prelude.{◌≡◌, ◌≤◌, Some, None, IfErr, IfOk, IfSome, length};
 ghost use Rattle.std.specs.Arc.{arc_value};
 ghost use Rattle.jv_unit.specs.Kept.{folder_of, IsWhole};
 ghost use Rattle.sc_io.specs.SourceFile.{sources_of};
@@ -8,7 +8,7 @@ ghost use Rattle.sc_sources.specs.Read.{AreWithinLimits, IsReadOf};
 ghost use Rattle.sc_sources.specs.declared.sources.Sources.TheVariants.{Faults};
 ghost use Rattle.sc_app.specs.Diagnoses.{DeclareTooMany};
 ghost use Rattle.sc_app.specs.FolderReport.{Reports};
-ghost use Rattle.sc_app.specs.FolderRun.{IsFolderRun, ruled};
+ghost use Rattle.sc_app.specs.FolderRun.{IsFolderRun, IsServedIn, ruled};
 ghost use Rattle.sc_app.specs.Outcome.{IsOutcomeOf, IsReady};
 
 use crate::circular::circular_lines;
@@ -89,7 +89,7 @@ pub fn check_gated<R: Threads + Wait + Sync, G: Gate>(
 /// Checks the sources of a folder, as `check_project` does, on the caller's thread alone: first each number in `order` makes one step of
 /// that checker, and is passed by where the checker has ended or waits, or where none has it; and then the least that can go on
 /// steps, as long as there is one. The checkers of the files come first, the prelude's two before them, and then those of the types.
-/// The outcome is the report of the rules, whatever the order.
+/// The outcome is the report of the rules, whatever the order, and its core's log has the steps in that order.
 pub fn check_in_order(
     alloc: Global,
     files: Vec<SourceFile>,
@@ -97,6 +97,7 @@ pub fn check_in_order(
 ) -> Result<Outcome, ProjectFault>
     requires within { AreWithinLimits (sources_of files.items) }
     ensures outcome { IfOk result (IsOutcomeOf (sources_of files.items)) }
+    ensures served { IfOk result (λ o. IfSome o.core (IsServedIn order.now)) }
     ensures fault { IfErr result (λ e. e ≡ ProjectFault.TooManyTypes → DeclareTooMany (sources_of files.items)) }
 {
     match prepare(alloc, files.as_slice())? {
@@ -118,7 +119,8 @@ pub fn check_in_order(
 fn faulty(files: Vec<SourceFile>, faults: DiagList) -> Outcome
     requires faults { IsReadOf (sources_of files.items) (Faults faults) }
     requires within { length files.items ≤ 4096 }
-    ensures { IsOutcomeOf (sources_of files.items) result }
+    ensures outcome { IsOutcomeOf (sources_of files.items) result }
+    ensures core { result.core ≡ None }
 {
     Outcome {
         diags: sorted_diags(faults.into_vec()),
@@ -142,6 +144,7 @@ fn ran(
     requires run { IsFolderRun (folder_of (arc_value folder)) core }
     requires within { length files.items ≤ 4096 }
     ensures outcome { IfOk result (IsOutcomeOf (sources_of files.items)) }
+    ensures core { IfOk result (λ o. o.core ≡ Some core) }
     ensures fault { IfErr result (λ e. e ≡ ProjectFault.OutOfMemory) }
 {
     let Ok(diags) = run_diags(alloc, &folder, &core) else {

@@ -6,8 +6,8 @@ use Rattle.sc_report.specs.Report.{AreSorted}
 use Rattle.sc_app.proofs.Checked.{fault_there, faults_diagnosed}
 use Rattle.sc_app.proofs.project.faulty.Goals as goal
 
-pub returns : goal.returns
-returns c =
+pub returns-clause-outcome : goal.returns-clause-outcome
+returns-clause-outcome c =
     record {
       sources = refl;
       files = ap length c.as_slice.ensures.value ∙ sym (length-map c.args.files.items source_of);
