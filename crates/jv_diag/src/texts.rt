@@ -3,8 +3,8 @@
 ghost use Rattle.std.specs.Prelude.{◌≡◌, ◌<◌};
 ghost use Rattle.jv_diag.specs.Text.{text_of};
 
-// The texts in the order of their codes. Each `$` stands for an argument, one after another; a number that is no code has
-// the empty text.
+/// The texts in the order of their codes. Each `$` stands for an argument, one after another; a number that is no code has
+/// the empty text.
 const TEXTS: [&str; 58] = [
     "",
     "not UTF-8",

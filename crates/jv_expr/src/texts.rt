@@ -12,14 +12,14 @@ use jv_instance::Ty;
 use jv_types::is_type;
 use std::alloc::{AllocError, Global};
 
-// The marks in the order of their numbers.
+/// The marks in the order of their numbers.
 const MARKS: [&str; 50] = [
     "(", ")", "{", "}", "[", "]", ";", ",", ".", "...", "@", "::", "=", ">", "<", "!", "~", "?",
     ":", "->", "==", ">=", "<=", "!=", "&&", "||", "++", "--", "+", "-", "*", "/", "&", "|", "^",
     "%", "<<", ">>", ">>>", "+=", "-=", "*=", "/=", "&=", "|=", "^=", "%=", "<<=", ">>=", ">>>=",
 ];
 
-// The mark of a number.
+/// The mark of a number.
 fn mark(number: u8) -> &'static str
     requires { number < 50 }
     ensures { result.now ≡ slice_index_or marks number [] }
@@ -27,7 +27,7 @@ fn mark(number: u8) -> &'static str
     MARKS[number as usize]
 }
 
-// The mark of a number, and no text for a number that is none of a mark.
+/// The mark of a number, and no text for a number that is none of a mark.
 fn mark_or_none(number: u8) -> &'static str
     ensures { result.now ≡ slice_index_or marks number [] }
 {

@@ -68,14 +68,14 @@ pub fn first_deep(terminals: &[Terminal]) -> Option<u32>
     None
 }
 
-// The terminal of a number, where there is one.
+/// The terminal of a number, where there is one.
 pub(crate) fn terminal_at(terminals: &[Terminal], index: usize) -> Option<Terminal>
     ensures { result ≡ slice_get terminals.now index }
 {
     terminals.get(index).copied()
 }
 
-// No open bracket.
+/// No open bracket.
 pub(crate) fn outside() -> OpenBrackets
     ensures { nesting_of result ≡ outside }
 {
@@ -89,7 +89,7 @@ pub(crate) fn outside() -> OpenBrackets
     }
 }
 
-// What a terminal between its neighbours does.
+/// What a terminal between its neighbours does.
 pub(crate) fn step(
     nesting: &mut OpenBrackets,
     before: Option<Terminal>,
@@ -115,14 +115,14 @@ pub(crate) fn step(
     }
 }
 
-// A closing bracket where no bracket is open.
+/// A closing bracket where no bracket is open.
 fn is_unmatched(nesting: &OpenBrackets, terminal: Terminal) -> bool
     ensures { result ≡ is_unmatched terminal (nesting_of nesting.now).stack }
 {
     is_closing(terminal) && nesting.depth == 0
 }
 
-// What an opening bracket does.
+/// What an opening bracket does.
 fn open(nesting: &mut OpenBrackets, before: Option<Terminal>, terminal: Terminal)
     requires low { nesting.old.load ≤ 200 }
     requires sound { IsSound (nesting_of nesting.old) }
@@ -137,7 +137,7 @@ fn open(nesting: &mut OpenBrackets, before: Option<Terminal>, terminal: Terminal
     nesting.load += 1;
 }
 
-// What a closing bracket does.
+/// What a closing bracket does.
 fn close(nesting: &mut OpenBrackets, terminal: Terminal, behind: Option<Terminal>)
     requires low { nesting.old.load ≤ 200 }
     requires sound { IsSound (nesting_of nesting.old) }
@@ -153,7 +153,7 @@ fn close(nesting: &mut OpenBrackets, terminal: Terminal, behind: Option<Terminal
     }
 }
 
-// 0 outside of all brackets, and else one more than the load before the innermost one.
+/// 0 outside of all brackets, and else one more than the load before the innermost one.
 fn base(nesting: &OpenBrackets) -> u8
     requires low { nesting.now.load ≤ 200 }
     requires sound { IsSound (nesting_of nesting.now) }
@@ -166,35 +166,35 @@ fn base(nesting: &OpenBrackets) -> u8
     }
 }
 
-// `(`, `[` or `{`.
+/// `(`, `[` or `{`.
 fn is_opening(terminal: Terminal) -> bool
     ensures { result ≡ is_opening terminal }
 {
     is_mark(0, terminal) || is_mark(4, terminal) || is_mark(2, terminal)
 }
 
-// `)`, `]` or `}`.
+/// `)`, `]` or `}`.
 fn is_closing(terminal: Terminal) -> bool
     ensures { result ≡ is_closing terminal }
 {
     is_mark(1, terminal) || is_mark(5, terminal) || is_mark(3, terminal)
 }
 
-// A `{` directly behind `]`.
+/// A `{` directly behind `]`.
 fn begins_list(before: Option<Terminal>, terminal: Terminal) -> bool
     ensures { result ≡ begins_list before terminal }
 {
     is_mark(2, terminal) && is_some_mark(5, before)
 }
 
-// Whether a `,` or a `;` ends a part: a `;` does not before `else` and `while`.
+/// Whether a `,` or a `;` ends a part: a `;` does not before `else` and `while`.
 fn ends_part(terminal: Terminal, behind: Option<Terminal>) -> bool
     ensures { result ≡ ends_part terminal behind }
 {
     is_mark(7, terminal) || (is_mark(6, terminal) && !goes_on(behind))
 }
 
-// The chain tokens, of which each adds one.
+/// The chain tokens, of which each adds one.
 fn is_chain(before: Option<Terminal>, terminal: Terminal, behind: Option<Terminal>) -> bool
     ensures { result ≡ is_chain before terminal behind }
 {
@@ -215,28 +215,28 @@ fn is_chain(before: Option<Terminal>, terminal: Terminal, behind: Option<Termina
     }
 }
 
-// `else` or `while`.
+/// `else` or `while`.
 fn goes_on(terminal: Option<Terminal>) -> bool
     ensures { result ≡ is_there goes_on terminal }
 {
     matches!(terminal, Some(Terminal::Keyword(_, 14 | 49)))
 }
 
-// `else`.
+/// `else`.
 fn is_else(terminal: Option<Terminal>) -> bool
     ensures { result ≡ is_there (is_keyword 14) terminal }
 {
     matches!(terminal, Some(Terminal::Keyword(_, 14)))
 }
 
-// `boolean`, `char`, `int` or `long`.
+/// `boolean`, `char`, `int` or `long`.
 fn is_primitive(terminal: Option<Terminal>) -> bool
     ensures { result ≡ is_there is_primitive terminal }
 {
     matches!(terminal, Some(Terminal::Keyword(_, 2 | 7 | 26 | 28)))
 }
 
-// An identifier, a literal, `this`, `)` or `]`.
+/// An identifier, a literal, `this`, `)` or `]`.
 fn ends_operand(terminal: Option<Terminal>) -> bool
     ensures { result ≡ is_there ends_operand terminal }
 {
@@ -249,7 +249,7 @@ fn ends_operand(terminal: Option<Terminal>) -> bool
     }
 }
 
-// An identifier, a literal, `(`, `!`, `~`, `this`, `super` or `new`.
+/// An identifier, a literal, `(`, `!`, `~`, `this`, `super` or `new`.
 fn follows_cast(terminal: Option<Terminal>) -> bool
     ensures { result ≡ is_there follows_cast terminal }
 {
@@ -262,7 +262,7 @@ fn follows_cast(terminal: Option<Terminal>) -> bool
     }
 }
 
-// The mark of a number.
+/// The mark of a number.
 fn is_mark(number: u8, terminal: Terminal) -> bool
     ensures { result ≡ is_mark number terminal }
 {
@@ -272,7 +272,7 @@ fn is_mark(number: u8, terminal: Terminal) -> bool
     }
 }
 
-// A neighbour that is the mark of a number.
+/// A neighbour that is the mark of a number.
 fn is_some_mark(number: u8, terminal: Option<Terminal>) -> bool
     ensures { result ≡ is_there (is_mark number) terminal }
 {

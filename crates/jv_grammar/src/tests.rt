@@ -37,7 +37,7 @@ fn terminals_of(alloc: Global, source: &[u8]) -> Result<Vec<Terminal>, Fail>
     Ok(terminals)
 }
 
-// The offset of a terminal.
+/// The offset of a terminal.
 fn at_of(terminal: Option<Terminal>) -> u32 {
     match terminal {
         Some(Terminal::Ident(ident)) => ident.at,
@@ -52,7 +52,7 @@ fn at_of(terminal: Option<Terminal>) -> u32 {
     }
 }
 
-// The load after each terminal of a source.
+/// The load after each terminal of a source.
 fn loads(alloc: Global, source: &[u8]) -> Result<String, Fail>
     requires { length source.now ≤ 1048576 }
 {
@@ -177,7 +177,7 @@ fn tables_of_loads(rt: HostRuntime) -> Result<(), Fail> {
     Ok(())
 }
 
-// A front, a text so many times, a middle, another text as many times, and a rest.
+/// A front, a text so many times, a middle, another text as many times, and a rest.
 fn repeated(alloc: Global, parts: [&str; 5], times: usize) -> Result<String, Fail> {
     let [front, left, middle, right, rest] = parts;
     let mut source = String::new(alloc);
@@ -193,7 +193,7 @@ fn repeated(alloc: Global, parts: [&str; 5], times: usize) -> Result<String, Fai
     Ok(source)
 }
 
-// In place of the number and the offset of a deep terminal, where there is none.
+/// In place of the number and the offset of a deep terminal, where there is none.
 const SHALLOW: (u32, u32) = (9999, 9999);
 
 #[test]

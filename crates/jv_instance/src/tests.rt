@@ -14,7 +14,7 @@ const STRING: Ty = Ty {
     dims: 1,
 };
 
-// The signature `int f(String[])`, whose name has the number 5.
+/// The signature `int f(String[])`, whose name has the number 5.
 fn signature(alloc: Global) -> Result<JavaDatum, Fail> {
     Ok(JavaDatum::Signature {
         name: NameId(5),

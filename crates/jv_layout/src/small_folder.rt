@@ -97,7 +97,7 @@ fn type_of(
     ))
 }
 
-// `class A { int x; class B { B() {} } int x; int x(); int m(); }`
+/// `class A { int x; class B { B() {} } int x; int x(); int m(); }`
 fn outer_class(alloc: Global) -> Result<TypeDecl, Fail> {
     let inner = type_of(alloc, B, false, vec![in alloc; constructor_of(alloc, B)?]?)?;
     let members = vec![in alloc;
@@ -110,7 +110,7 @@ fn outer_class(alloc: Global) -> Result<TypeDecl, Fail> {
     type_of(alloc, A, false, members)
 }
 
-// `interface I { int x; class B {} }`
+/// `interface I { int x; class B {} }`
 fn outer_interface(alloc: Global) -> Result<TypeDecl, Fail> {
     let inner = type_of(alloc, B, false, vec![in alloc]?)?;
     let members = vec![in alloc; field_of(alloc, X)?, nested(inner)]?;

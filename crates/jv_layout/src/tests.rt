@@ -32,7 +32,7 @@ fn layout_of(alloc: Global, files: Vec<Unit>) -> Result<Layout, Fail> {
     Ok(layout(alloc, &names, &files)?)
 }
 
-// The serials of scopes.
+/// The serials of scopes.
 fn serials(alloc: Global, scopes: &[Scope]) -> Result<String, Fail> {
     let mut text = String::new(alloc);
     for scope in scopes {
@@ -68,7 +68,7 @@ fn scopes_stand_in_order(rt: HostRuntime) -> Result<(), Fail> {
     Ok(())
 }
 
-// The members of each type, and of scopes that are none.
+/// The members of each type, and of scopes that are none.
 const MEMBERS: [(u32, &str); 10] = [
     (0, ""),
     (7, ""),
@@ -122,7 +122,7 @@ fn scopes_have_titles(rt: HostRuntime) -> Result<(), Fail> {
     Ok(())
 }
 
-// A class by its serial and its brackets, and its text.
+/// A class by its serial and its brackets, and its text.
 const CLASS_TEXTS: [(u32, u8, &str); 5] = [
     (9, 0, "java.lang.Object"),
     (12, 0, "p.A.B"),
@@ -143,7 +143,7 @@ fn classes_have_texts(rt: HostRuntime) -> Result<(), Fail> {
     Ok(())
 }
 
-// A base that is no class and its brackets, and its text.
+/// A base that is no class and its brackets, and its text.
 const PLAIN_TEXTS: [(TypeBase, u8, &str); 8] = [
     (TypeBase::Boolean, 0, "boolean"),
     (TypeBase::Char, 1, "char[]"),
@@ -166,7 +166,7 @@ fn plain_types_have_texts(rt: HostRuntime) -> Result<(), Fail> {
     Ok(())
 }
 
-// The numbers of simple names.
+/// The numbers of simple names.
 const SIMPLE_NAMES: [(u32, Option<u32>); 13] = [
     (0, None),
     (1, None),
@@ -207,7 +207,7 @@ fn a_second_class_and_a_second_field_are_duplicates(rt: HostRuntime) -> Result<(
     Ok(())
 }
 
-// Scopes and numbers of names, and whether a package stands there.
+/// Scopes and numbers of names, and whether a package stands there.
 const SUBPACKAGES: [(u32, u32, bool); 8] = [
     (0, 0, true),
     (0, 1, false),
@@ -229,7 +229,7 @@ fn packages_have_their_subpackages(rt: HostRuntime) -> Result<(), Fail> {
     Ok(())
 }
 
-// The edges with a label, each as the serials of its scopes.
+/// The edges with a label, each as the serials of its scopes.
 fn edges_by(alloc: Global, opening: &Opening<JavaDatum>, label: u8) -> Result<String, Fail> {
     let mut text = String::new(alloc);
     for (from, by, to) in &opening.edges {
@@ -240,7 +240,7 @@ fn edges_by(alloc: Global, opening: &Opening<JavaDatum>, label: u8) -> Result<St
     Ok(text)
 }
 
-// A second class `A` and a second field `x` have no edge.
+/// A second class `A` and a second field `x` have no edge.
 const EDGES: [(u8, &str); 11] = [
     (labels::PKG, "0-2 2-3 0-4 "),
     (labels::PKGOF, "5-3 6-3 7-4 8-1 "),
@@ -269,7 +269,7 @@ fn an_opening_has_its_edges(rt: HostRuntime) -> Result<(), Fail> {
     Ok(())
 }
 
-// The rows that units hold, each as the unit, the scope's serial and the label.
+/// The rows that units hold, each as the unit, the scope's serial and the label.
 fn rows_held(alloc: Global, opening: &Opening<JavaDatum>) -> Result<String, Fail> {
     let mut text = String::new(alloc);
     for (unit, scope, label) in &opening.row_holds {
@@ -278,7 +278,7 @@ fn rows_held(alloc: Global, opening: &Opening<JavaDatum>) -> Result<String, Fail
     Ok(text)
 }
 
-// The data that units hold, each as the unit and the scope's serial.
+/// The data that units hold, each as the unit and the scope's serial.
 fn data_held(alloc: Global, opening: &Opening<JavaDatum>) -> Result<String, Fail> {
     let mut text = String::new(alloc);
     for (unit, scope) in &opening.datum_holds {
@@ -304,7 +304,7 @@ fn units_hold_rows_and_data(rt: HostRuntime) -> Result<(), Fail> {
     Ok(())
 }
 
-// The packages stand by dotted name, byte by byte, and a dollar sign is before a dot.
+/// The packages stand by dotted name, byte by byte, and a dollar sign is before a dot.
 const DOTTED_NAMES: [(u32, &str); 6] = [
     (2, "p"),
     (3, "p$"),

@@ -35,7 +35,7 @@ pub(crate) fn begins_gap(text: &str) -> bool
     }
 }
 
-// Whether a text begins with a character.
+/// Whether a text begins with a character.
 fn begins_with(text: &str, ch: char) -> bool
     ensures { result ≡ begins_with ch (chars text.now) }
 {
@@ -45,7 +45,7 @@ fn begins_with(text: &str, ch: char) -> bool
     }
 }
 
-// What stands behind the comment whose first slash was taken away.
+/// What stands behind the comment whose first slash was taken away.
 fn behind_comment(text: &str) -> Option<&str>
     ensures { MatchOption result
         (behind_comment (chars text.now) ≡ None)
@@ -61,7 +61,7 @@ fn behind_comment(text: &str) -> Option<&str>
     None
 }
 
-// What is left from the first end of a line on.
+/// What is left from the first end of a line on.
 fn from_line_end(text: &str) -> &str
     ensures { chars result.now ≡ from_line_end (chars text.now) }
 {
@@ -75,7 +75,7 @@ fn from_line_end(text: &str) -> &str
     rest
 }
 
-// What stands behind the first `*/`.
+/// What stands behind the first `*/`.
 fn behind_star_slash(text: &str) -> Option<&str>
     ensures { MatchOption result
         (behind_star_slash (chars text.now) ≡ None)

@@ -47,7 +47,7 @@ impl Place {
     }
 }
 
-// Whether a line ends with the byte at an index.
+/// Whether a line ends with the byte at an index.
 fn ends_line(source: &[u8], i: usize) -> bool
     requires { i < length source.now }
     ensures { result ≡ ends_line source.now i }
@@ -55,7 +55,7 @@ fn ends_line(source: &[u8], i: usize) -> bool
     source[i] == b'\n' || (source[i] == b'\r' && source.get(i + 1) != Some(&b'\n'))
 }
 
-// Whether a byte is the first of a character, in a text that is UTF-8.
+/// Whether a byte is the first of a character, in a text that is UTF-8.
 fn is_first_byte(byte: u8) -> bool
     ensures { result ≡ is_first_byte byte }
 {

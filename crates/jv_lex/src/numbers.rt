@@ -41,7 +41,7 @@ pub(crate) fn number_kind(word: &str) -> Option<TokenKind>
     }
 }
 
-// What stands behind `0x` or `0X`.
+/// What stands behind `0x` or `0X`.
 fn behind_hexadecimal_mark(word: &str) -> Option<&str>
     ensures { MatchOption result
         (begins_hexadecimal (chars word.now) ≡ false)
@@ -55,7 +55,7 @@ fn behind_hexadecimal_mark(word: &str) -> Option<&str>
     None
 }
 
-// The kind of decimal digits and what stands behind them.
+/// The kind of decimal digits and what stands behind them.
 fn decimal_kind(word: &str) -> Option<TokenKind>
     ensures { result
         ≡ decimal_kind (digits 10 (chars word.now)) (behind_digits 10 (chars word.now)) }
@@ -73,7 +73,7 @@ fn decimal_kind(word: &str) -> Option<TokenKind>
     None
 }
 
-// The kind of hexadecimal digits and what stands behind them.
+/// The kind of hexadecimal digits and what stands behind them.
 fn hexadecimal_kind(word: &str) -> Option<TokenKind>
     ensures { result
         ≡ hexadecimal_kind (digits 16 (chars word.now)) (behind_digits 16 (chars word.now)) }
@@ -92,7 +92,7 @@ fn hexadecimal_kind(word: &str) -> Option<TokenKind>
     None
 }
 
-// Whether the decimal digits that a text begins with are `0`, or begin with another digit.
+/// Whether the decimal digits that a text begins with are `0`, or begin with another digit.
 fn begins_decimal(word: &str) -> bool
     ensures { result ≡ is_decimal (digits 10 (chars word.now)) }
 {
@@ -102,7 +102,7 @@ fn begins_decimal(word: &str) -> bool
     }
 }
 
-// Whether a text is the mark of a long.
+/// Whether a text is the mark of a long.
 fn is_long_mark(text: &str) -> bool
     ensures { result ≡ is_long_mark (chars text.now) }
 {
@@ -112,7 +112,7 @@ fn is_long_mark(text: &str) -> bool
     }
 }
 
-// Whether nothing is left of a text.
+/// Whether nothing is left of a text.
 fn is_nothing(text: &str) -> bool
     ensures { result ≡ is_nothing (chars text.now) }
 {
@@ -122,7 +122,7 @@ fn is_nothing(text: &str) -> bool
     }
 }
 
-// The kind of a decimal value below a limit, or at it.
+/// The kind of a decimal value below a limit, or at it.
 fn up_to(limit: u64, kind: TokenKind, minimum: TokenKind, value: Option<u64>) -> Option<TokenKind>
     ensures { (n : ℕ) → SomeIff value (n < 2 ^ 64) n → result ≡ up_to limit kind minimum n }
 {
@@ -136,7 +136,7 @@ fn up_to(limit: u64, kind: TokenKind, minimum: TokenKind, value: Option<u64>) ->
     None
 }
 
-// The kind of a hexadecimal value up to `last`.
+/// The kind of a hexadecimal value up to `last`.
 fn at_most(last: u64, kind: TokenKind, value: Option<u64>) -> Option<TokenKind>
     ensures { (n : ℕ) → SomeIff value (n < 2 ^ 64) n → result ≡ below (last + 1) kind n }
 {
@@ -147,7 +147,7 @@ fn at_most(last: u64, kind: TokenKind, value: Option<u64>) -> Option<TokenKind>
     None
 }
 
-// The value of the digits that a text begins with, where it has at most 64 bits, and what stands behind them.
+/// The value of the digits that a text begins with, where it has at most 64 bits, and what stands behind them.
 fn read_digits(radix: u32, text: &str) -> (Option<u64>, &str)
     requires low { 2 ≤ radix }
     requires high { radix ≤ 36 }
@@ -166,7 +166,7 @@ fn read_digits(radix: u32, text: &str) -> (Option<u64>, &str)
     (value, rest)
 }
 
-// A value with one more digit behind it.
+/// A value with one more digit behind it.
 fn with_digit(value: Option<u64>, radix: u32, digit: u32) -> Option<u64>
     requires { 2 ≤ radix }
     ensures { (n : ℕ) → SomeIff value (n < 2 ^ 64) n

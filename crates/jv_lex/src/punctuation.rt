@@ -7,21 +7,21 @@ ghost use Rattle.jv_lex.specs.declared.punctuation.TheConstants.{LONGER_FIRST};
 
 use crate::characters::split_char;
 
-// The marks in the order of their numbers.
+/// The marks in the order of their numbers.
 const MARKS: [&str; 50] = [
     "(", ")", "{", "}", "[", "]", ";", ",", ".", "...", "@", "::", "=", ">", "<", "!", "~", "?",
     ":", "->", "==", ">=", "<=", "!=", "&&", "||", "++", "--", "+", "-", "*", "/", "&", "|", "^",
     "%", "<<", ">>", ">>>", "+=", "-=", "*=", "/=", "&=", "|=", "^=", "%=", "<<=", ">>=", ">>>=",
 ];
 
-// Their numbers in an order in which no mark stands behind one that it begins with, and the marks of one first character
-// stand together.
+/// Their numbers in an order in which no mark stands behind one that it begins with, and the marks of one first character
+/// stand together.
 const LONGER_FIRST: [u8; 50] = [
     0, 1, 2, 3, 6, 7, 9, 8, 4, 5, 20, 12, 49, 38, 48, 37, 21, 13, 47, 36, 22, 14, 23, 15, 26, 39,
     28, 19, 27, 40, 29, 24, 43, 32, 25, 44, 33, 41, 30, 42, 31, 11, 18, 17, 16, 45, 34, 46, 35, 10,
 ];
 
-// Where in that order the marks of each ASCII character begin, by its code; 50 where no mark begins with it.
+/// Where in that order the marks of each ASCII character begin, by its code; 50 where no mark begins with it.
 const FIRST_PLACES: [u8; 128] = [
     50, 50, 50, 50, 50, 50, 50, 50, 50, 50, 50, 50, 50, 50, 50, 50, 50, 50, 50, 50, 50, 50, 50, 50,
     50, 50, 50, 50, 50, 50, 50, 50, 50, 22, 50, 50, 50, 47, 31, 50, 0, 1, 37, 24, 5, 27, 6, 39, 50,
@@ -46,7 +46,7 @@ pub(crate) fn longest_mark(text: &str) -> Option<(u8, &str)>
     None
 }
 
-// Where in the order the marks of a text's first character begin: the text begins with none of the marks before.
+/// Where in the order the marks of a text's first character begin: the text begins with none of the marks before.
 fn first_place(text: &str) -> usize
     ensures { (k : ℕ) → k < result → (rest : List ℕ)
         → chars text.now ≡ slice_index_or marks (slice_index_or LONGER_FIRST k 0) [] ++ rest → ⊥ }
@@ -60,7 +60,7 @@ fn first_place(text: &str) -> usize
     50
 }
 
-// The mark of a number.
+/// The mark of a number.
 fn mark(number: u8) -> &'static str
     requires { number < 50 }
     ensures { result.now ≡ slice_index_or marks number [] }

@@ -49,7 +49,7 @@ pub(crate) fn behind_string(text: &str) -> Option<&str>
     None
 }
 
-// What stands behind an escape whose backslash was taken away, and behind the closing quote that follows.
+/// What stands behind an escape whose backslash was taken away, and behind the closing quote that follows.
 fn behind_escape(text: &str) -> Option<&str>
     ensures { MatchOption result
         (behind_escape (chars text.now) ≡ None)
@@ -66,7 +66,7 @@ fn behind_escape(text: &str) -> Option<&str>
     None
 }
 
-// What stands behind octal digits, of which `most` at most are taken.
+/// What stands behind octal digits, of which `most` at most are taken.
 fn behind_octals(most: u32, text: &str) -> &str
     ensures { chars result.now ≡ behind_octals most (chars text.now) }
 {
@@ -85,7 +85,7 @@ fn behind_octals(most: u32, text: &str) -> &str
     rest
 }
 
-// What stands behind the closing quote of a character literal.
+/// What stands behind the closing quote of a character literal.
 fn behind_quote(text: &str) -> Option<&str>
     ensures { MatchOption result
         (behind_quote (chars text.now) ≡ None)
@@ -98,7 +98,7 @@ fn behind_quote(text: &str) -> Option<&str>
     None
 }
 
-// Whether a character stands behind the backslash of an escape, other than an octal digit.
+/// Whether a character stands behind the backslash of an escape, other than an octal digit.
 fn is_escape_letter(ch: char) -> bool
     ensures { result ≡ is_escape_letter ch }
 {

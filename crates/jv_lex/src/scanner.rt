@@ -15,7 +15,7 @@ use crate::token::{Token, TokenKind};
 use crate::words::word_kind;
 use std::alloc::Global;
 
-// The number of the mark `-`.
+/// The number of the mark `-`.
 const MINUS: u8 = 29;
 
 /// The tokens of a source of at most 1 MiB, in order; blanks and comments leave none (JLS 3.5). Where the bytes are
@@ -56,7 +56,7 @@ pub fn lex(alloc: Global, source: &[u8]) -> Result<Vec<Token>, LexFault>
     Ok(tokens)
 }
 
-// The fault at a bad place, from which on `rest` is left.
+/// The fault at a bad place, from which on `rest` is left.
 fn fault_at(at: u32, rest: &str) -> LexFault
     ensures { result ≡ fault_at at (begins_literal (chars rest.now)) }
 {
@@ -67,7 +67,7 @@ fn fault_at(at: u32, rest: &str) -> LexFault
     }
 }
 
-// The first token of a text, where it may stand behind the token before, and what stands behind it.
+/// The first token of a text, where it may stand behind the token before, and what stands behind it.
 fn next_token(before: Option<TokenKind>, text: &str) -> Option<(TokenKind, &str)>
     ensures { MatchOption result
         (HasNoNext before (chars text.now))
@@ -80,7 +80,7 @@ fn next_token(before: Option<TokenKind>, text: &str) -> Option<(TokenKind, &str)
     None
 }
 
-// Whether a token may stand behind another one: a minimum literal stands behind `-` alone.
+/// Whether a token may stand behind another one: a minimum literal stands behind `-` alone.
 fn may_follow(before: Option<TokenKind>, kind: TokenKind) -> bool
     ensures { IsTrue result ↔ MayFollow before kind }
 {
@@ -90,7 +90,7 @@ fn may_follow(before: Option<TokenKind>, kind: TokenKind) -> bool
     }
 }
 
-// The first token of a text, and what stands behind it.
+/// The first token of a text, and what stands behind it.
 fn first_token(text: &str) -> Option<(TokenKind, &str)>
     ensures { MatchOption result
         (HasNoToken (chars text.now))
@@ -121,7 +121,7 @@ fn first_token(text: &str) -> Option<(TokenKind, &str)>
     Some((TokenKind::Punct(number), rest))
 }
 
-// Whether a text begins with a point and a digit.
+/// Whether a text begins with a point and a digit.
 fn begins_fraction(text: &str) -> bool
     ensures { result ≡ begins_fraction (chars text.now) }
 {
@@ -131,7 +131,7 @@ fn begins_fraction(text: &str) -> bool
     }
 }
 
-// Whether a text begins as a number, a character or a string, or with a point and a digit.
+/// Whether a text begins as a number, a character or a string, or with a point and a digit.
 fn begins_literal(text: &str) -> bool
     ensures { result ≡ begins_literal (chars text.now) }
 {

@@ -7,7 +7,7 @@ use std::alloc::Global;
 use std::fmt::Write;
 use std::test::Fail;
 
-// Each token as its kind and the bytes that it takes, or the fault.
+/// Each token as its kind and the bytes that it takes, or the fault.
 fn shown(alloc: Global, source: &[u8]) -> Result<String, Fail>
     requires { length source.now ≤ 1048576 }
 {

@@ -7,7 +7,7 @@ ghost use Rattle.jv_lex.specs.Word.{keywords, word_kind};
 use crate::characters::split_char;
 use crate::token::TokenKind;
 
-// The keywords in the order of their numbers.
+/// The keywords in the order of their numbers.
 const KEYWORDS: [&str; 53] = [
     "abstract",
     "assert",
@@ -64,14 +64,14 @@ const KEYWORDS: [&str; 53] = [
     "null",
 ];
 
-// Their numbers in the order of their first letters.
+/// Their numbers in the order of their first letters.
 const BY_LETTER: [u8; 53] = [
     0, 1, 2, 3, 4, 5, 6, 7, 8, 9, 10, 11, 12, 13, 14, 15, 16, 17, 18, 19, 20, 51, 21, 22, 23, 24,
     25, 26, 27, 28, 29, 30, 52, 31, 32, 33, 34, 35, 36, 37, 38, 39, 40, 41, 42, 43, 44, 45, 46, 50,
     47, 48, 49,
 ];
 
-// Where in that order the keywords of each letter from `a` to `z` begin; at the end, where those of `z` end.
+/// Where in that order the keywords of each letter from `a` to `z` begin; at the end, where those of `z` end.
 const LETTER_PLACES: [u8; 27] = [
     0, 2, 5, 11, 14, 17, 22, 23, 23, 29, 29, 29, 30, 30, 33, 33, 37, 37, 38, 44, 50, 50, 52, 53,
     53, 53, 53,
@@ -97,7 +97,7 @@ pub(crate) fn word_kind(word: &str) -> TokenKind
     TokenKind::Ident
 }
 
-// The keyword of a number.
+/// The keyword of a number.
 fn keyword(number: u8) -> &'static str
     requires { number < 53 }
     ensures { result.now ≡ slice_index_or keywords number [] }

@@ -61,7 +61,7 @@ fn mods(alloc: Global, words: &[u8]) -> Result<Mods, AllocError> {
     })
 }
 
-// A method without a body at offset 5.
+/// A method without a body at offset 5.
 fn method_of(alloc: Global, words: &[u8]) -> Result<Member, AllocError>
     ensures { IfOk result (λ m. (rest : MemberTrees) → body_names (members (member_tree m) rest) ≡ 1 + body_names rest) }
 {
@@ -70,7 +70,7 @@ fn method_of(alloc: Global, words: &[u8]) -> Result<Member, AllocError>
     Ok(method_member(of))
 }
 
-// A class at offset 1.
+/// A class at offset 1.
 fn class_of(
     alloc: Global,
     words: &[u8],
@@ -107,7 +107,7 @@ fn class_with(alloc: Global, number: u32, words: &[u8]) -> Result<TypeDecl, Allo
     Ok(class)
 }
 
-// A file of `java.lang` with a public class.
+/// A file of `java.lang` with a public class.
 fn lang_file(alloc: Global, number: u32) -> Result<Unit, AllocError>
     ensures { IfOk result (λ u. unit_names (tree_of u) < 1000) }
 {
@@ -180,7 +180,7 @@ fn put_signature(
     put_path(alloc, o, for_any(kinds::SIG, scope(member)), steps, datum)
 }
 
-// The replies to all queries of `B`, whose method has this result and these parameters.
+/// The replies to all queries of `B`, whose method has this result and these parameters.
 fn replies(alloc: Global, base: TypeBase, params: Vec<Ty>) -> Result<Oracle, AllocError> {
     let mut o = Oracle::new(alloc);
     let m = NameId(M);
@@ -216,7 +216,7 @@ fn replies(alloc: Global, base: TypeBase, params: Vec<Ty>) -> Result<Oracle, All
     Ok(o)
 }
 
-// The codes of diagnostics, each with its place.
+/// The codes of diagnostics, each with its place.
 fn told(alloc: Global, diags: &DiagList) -> Result<String, Fail> {
     let mut text = String::new(alloc);
     for d in diags.as_slice() {
@@ -225,7 +225,7 @@ fn told(alloc: Global, diags: &DiagList) -> Result<String, Fail> {
     Ok(text)
 }
 
-// What is wrong with `B` where its method has these modifiers, and the replies are these; or that a reply is missing.
+/// What is wrong with `B` where its method has these modifiers, and the replies are these; or that a reply is missing.
 fn checked(alloc: Global, words: &[u8], o: &Oracle) -> Result<String, Fail> {
     let names = small_names(alloc)?;
     let files = small_files(alloc, words)?;
@@ -242,8 +242,8 @@ fn checked(alloc: Global, words: &[u8], o: &Oracle) -> Result<String, Fail> {
     }
 }
 
-// The modifiers of the method of `B`, its result, and the codes with their places: the method stands at 5 and the class at 1. A
-// method without `abstract` has no body, which is 37.
+/// The modifiers of the method of `B`, its result, and the codes with their places: the method stands at 5 and the class at 1. A
+/// method without `abstract` has no body, which is 37.
 const METHODS_OF_B: [(&[u8], TypeBase, &str); 7] = [
     (&[34], TypeBase::Int, "37@5 "),
     (&[], TypeBase::Int, "37@5 33@5 "),
@@ -299,7 +299,7 @@ fn superclass_constructor_takes_no_arguments(rt: HostRuntime) -> Result<(), Fail
     Ok(())
 }
 
-// Adds the path from `String` through one of its supertypes to a method of that.
+/// Adds the path from `String` through one of its supertypes to a method of that.
 fn add_inherited(
     found: &mut FoundTree<JavaDatum>,
     above: u32,
@@ -309,7 +309,7 @@ fn add_inherited(
     found.add(&steps, JavaDatum::Member { name: NameId(M) })
 }
 
-// What is wrong with `String` where it inherits the methods of `A` and of `B`.
+/// What is wrong with `String` where it inherits the methods of `A` and of `B`.
 fn met(alloc: Global, base: TypeBase, params: Vec<Ty>) -> Result<String, Fail> {
     let mut o = replies(alloc, base, params)?;
     let mut found = FoundTree::new(alloc, scope(8));

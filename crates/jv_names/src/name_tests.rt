@@ -36,7 +36,7 @@ fn spot_of(alloc: Global, file: u32, bodies: &[u32]) -> Result<Spot, Fail> {
     Ok(Spot { file, inside })
 }
 
-// What was found, where no reply is missing.
+/// What was found, where no reply is missing.
 fn known<T>(found: Known<T, Query<JavaPred>>) -> Result<T, Fail> {
     match found {
         Known::Is(value) => Ok(value),
@@ -44,7 +44,7 @@ fn known<T>(found: Known<T, Query<JavaPred>>) -> Result<T, Fail> {
     }
 }
 
-// A meaning as a serial or a word.
+/// A meaning as a serial or a word.
 fn put_meaning(text: &mut String, meaning: Meaning) -> Result<(), Fail> {
     match meaning {
         Meaning::One(s) => write!(text, "{}", s.serial)?,
@@ -55,7 +55,7 @@ fn put_meaning(text: &mut String, meaning: Meaning) -> Result<(), Fail> {
     Ok(())
 }
 
-// A meaning, and the serials of the types of its parts.
+/// A meaning, and the serials of the types of its parts.
 fn told(alloc: Global, resolved: &Resolved) -> Result<String, Fail> {
     let mut text = String::new(alloc);
     put_meaning(&mut text, resolved.meaning)?;
@@ -79,7 +79,7 @@ fn type_told(
     told(alloc, &known(found)?)
 }
 
-// Names of types by file, bodies and parts: what each means, and the types that its parts mean.
+/// Names of types by file, bodies and parts: what each means, and the types that its parts mean.
 const NAMES: [(u32, &[u32], &[u32], &str); 13] = [
     (3, &[], &[A], "12 12"),
     (3, &[], &[C], "nothing"),
@@ -119,7 +119,7 @@ fn import_told(
     told(alloc, &known(found)?)
 }
 
-// Imports, on demand or of one name: what each means, and the types that its parts mean.
+/// Imports, on demand or of one name: what each means, and the types that its parts mean.
 const IMPORTS: [(bool, &[u32], &str); 7] = [
     (false, &[P, A], "12 12"),
     (false, &[P, A, M], "13 12 13"),
@@ -140,7 +140,7 @@ fn imports_start_at_the_root(rt: HostRuntime) -> Result<(), Fail> {
     Ok(())
 }
 
-// A type that is written in the file of `B`, with the codes of its diagnostics.
+/// A type that is written in the file of `B`, with the codes of its diagnostics.
 fn written_told(alloc: Global, small: &SmallFolder, base: Base, dims: u8) -> Result<String, Fail> {
     let spot = spot_of(alloc, 3, &[])?;
     if spot.file >= 4 {
@@ -164,7 +164,7 @@ fn written_told(alloc: Global, small: &SmallFolder, base: Base, dims: u8) -> Res
     Ok(text)
 }
 
-// Names that are written as types with brackets: what each means.
+/// Names that are written as types with brackets: what each means.
 const WRITTEN: [(&[u32], u8, &str); 4] = [
     (&[A], 1, "12 1"),
     (&[P, A, M], 0, "13 0 E22"),
@@ -193,7 +193,7 @@ fn sees_type(small: &SmallFolder, spot: &Spot, serial: u32) -> Result<bool, Fail
     known(found)
 }
 
-// Types at places, by file and bodies, and whether they are accessible there.
+/// Types at places, by file and bodies, and whether they are accessible there.
 const TYPES: [(u32, &[u32], u32, bool); 6] = [
     (3, &[], 12, true),
     (3, &[], 14, false),
@@ -234,7 +234,7 @@ fn reaches(
     known(found)
 }
 
-// Members at places, by file, bodies and the type of the receiver, and whether they are accessible there.
+/// Members at places, by file, bodies and the type of the receiver, and whether they are accessible there.
 const MEMBERS: [(u32, &[u32], u32, Option<u32>, bool); 10] = [
     (3, &[15], 21, None, true),
     (3, &[15], 21, Some(15), true),
@@ -269,7 +269,7 @@ fn field_told(alloc: Global, small: &SmallFolder, class: u32, number: u32) -> Re
     Ok(text)
 }
 
-// The fields of a name in a type, by the type and the name: what each means.
+/// The fields of a name in a type, by the type and the name: what each means.
 const FIELDS: [(u32, u32, &str); 6] = [
     (12, X, "19"),
     (12, Y, "20"),
@@ -314,7 +314,7 @@ fn methods_told(
     Ok(text)
 }
 
-// The step to a field.
+/// The step to a field.
 fn field_step(serial: u32) -> Step {
     Step {
         label: Label::new(labels::FIELD),
@@ -322,7 +322,7 @@ fn field_step(serial: u32) -> Step {
     }
 }
 
-// Paths from `A` by a field's label.
+/// Paths from `A` by a field's label.
 fn answer_of(alloc: Global, ends: &[u32]) -> Result<Answer<JavaDatum>, Fail> {
     let mut found = FoundTree::new(alloc, scope(12));
     for serial in ends {
@@ -332,7 +332,7 @@ fn answer_of(alloc: Global, ends: &[u32]) -> Result<Answer<JavaDatum>, Fail> {
     Ok(Answer::Paths(FoundPaths::new(alloc, found)?))
 }
 
-// What `x` means as a field of `A` where this is the answer.
+/// What `x` means as a field of `A` where this is the answer.
 fn field_by(alloc: Global, layout: Layout, answer: Answer<JavaDatum>) -> Result<String, Fail> {
     let query = Query {
         start: scope(12),
@@ -344,7 +344,7 @@ fn field_by(alloc: Global, layout: Layout, answer: Answer<JavaDatum>) -> Result<
     field_told(alloc, &SmallFolder { layout, oracle }, 12, X)
 }
 
-// Ends of paths by a field's label from `A`, of which 22 is a method and 40 is nowhere: what the field means.
+/// Ends of paths by a field's label from `A`, of which 22 is a method and 40 is nowhere: what the field means.
 const ENDS: [(&[u32], &str); 5] = [
     (&[], "nothing"),
     (&[19], "19"),
@@ -367,7 +367,7 @@ fn answers_that_are_made_up_have_a_meaning(rt: HostRuntime) -> Result<(), Fail> 
     Ok(())
 }
 
-// The methods of a name in a type, by the type and the name.
+/// The methods of a name in a type, by the type and the name.
 const METHODS: [(u32, u32, &str); 3] = [(12, M, "22 "), (15, M, "22 "), (15, X, "")];
 
 #[test]
@@ -380,7 +380,7 @@ fn methods_are_inherited(rt: HostRuntime) -> Result<(), Fail> {
     Ok(())
 }
 
-// The query that `p.A` in the body of `B` comes to, and whether it is the wanted one.
+/// The query that `p.A` in the body of `B` comes to, and whether it is the wanted one.
 fn asks_for(
     alloc: Global,
     layout: &Layout,
@@ -398,7 +398,7 @@ fn asks_for(
     }
 }
 
-// The queries that `p.A` asks in the body of `B`, in turn, by kind, start and name.
+/// The queries that `p.A` asks in the body of `B`, in turn, by kind, start and name.
 const ASKED: [(u8, u32, u32); 4] = [
     (MEMTYPE, 15, P),
     (FILETYPE, 9, P),

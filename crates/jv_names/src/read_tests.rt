@@ -18,7 +18,7 @@ use std::alloc::Global;
 use std::fmt::Write;
 use std::test::Fail;
 
-// What was read, where no reply is missing.
+/// What was read, where no reply is missing.
 fn known<T>(found: Result<T, Stop<Query<JavaPred>>>) -> Result<T, Fail> {
     match found {
         Ok(value) => Ok(value),
@@ -26,7 +26,7 @@ fn known<T>(found: Result<T, Stop<Query<JavaPred>>>) -> Result<T, Fail> {
     }
 }
 
-// The serials of scopes.
+/// The serials of scopes.
 fn serials(alloc: Global, scopes: &[Scope]) -> Result<String, Fail> {
     let mut text = String::new(alloc);
     for s in scopes {
@@ -35,7 +35,7 @@ fn serials(alloc: Global, scopes: &[Scope]) -> Result<String, Fail> {
     Ok(text)
 }
 
-// Types and their supertypes.
+/// Types and their supertypes.
 const SUPERS: [(u32, &str); 4] = [
     (10, "10 "),
     (12, "12 10 "),
@@ -57,7 +57,7 @@ fn types_have_their_supertypes(rt: HostRuntime) -> Result<(), Fail> {
     Ok(())
 }
 
-// Names in the extends clause of `B`, and its superclass.
+/// Names in the extends clause of `B`, and its superclass.
 const EXTENDED: [(&[u32], u32); 4] = [(&[A], 12), (&[P, A, M], 13), (&[C], 10), (&[B, B], 10)];
 
 #[test]
@@ -83,7 +83,7 @@ fn classes_have_a_superclass(rt: HostRuntime) -> Result<(), Fail> {
     Ok(())
 }
 
-// Types, and the bodies around them with an instance.
+/// Types, and the bodies around them with an instance.
 const INSTANCES: [(u32, &str); 3] = [(12, ""), (13, "12 "), (15, "")];
 
 #[test]
@@ -97,7 +97,7 @@ fn inner_classes_have_enclosing_instances(rt: HostRuntime) -> Result<(), Fail> {
     Ok(())
 }
 
-// Bodies and a class, and whether they have the enclosing instance that it needs.
+/// Bodies and a class, and whether they have the enclosing instance that it needs.
 const ENCLOSED: [(&[u32], u32, bool); 5] = [
     (&[], 12, true),
     (&[], 13, false),
@@ -132,7 +132,7 @@ fn class_type(serial: u32, dims: u8) -> Ty {
     }
 }
 
-// The classes and brackets of two results, and whether the first fits the second.
+/// The classes and brackets of two results, and whether the first fits the second.
 const RESULTS: [(u32, u8, u32, u8, bool); 6] = [
     (15, 0, 15, 0, true),
     (15, 0, 12, 0, true),
@@ -157,7 +157,7 @@ fn results_fit_those_above(rt: HostRuntime) -> Result<(), Fail> {
     Ok(())
 }
 
-// An answer with one path for each end.
+/// An answer with one path for each end.
 fn answer_of(
     alloc: Global,
     from: u32,
@@ -181,7 +181,7 @@ fn answer_of(
     Ok(Answer::Paths(FoundPaths::new(alloc, found)?))
 }
 
-// The signature of the method `m` of `A` where its query has paths to these ends.
+/// The signature of the method `m` of `A` where its query has paths to these ends.
 fn signature_by(alloc: Global, ends: &[u32], params: &[Ty]) -> Result<Option<ReadSignature>, Fail> {
     let layout = small_layout(alloc)?;
     let mut oracle = Oracle::new(alloc);
@@ -218,7 +218,7 @@ fn paths_that_do_not_fit_have_no_signature(rt: HostRuntime) -> Result<(), Fail> 
     Ok(())
 }
 
-// The constructor of `A` where its query has paths to these ends.
+/// The constructor of `A` where its query has paths to these ends.
 fn ctor_by(alloc: Global, ends: &[u32]) -> Result<Option<Scope>, Fail> {
     let layout = small_layout(alloc)?;
     let mut oracle = Oracle::new(alloc);
@@ -227,7 +227,7 @@ fn ctor_by(alloc: Global, ends: &[u32]) -> Result<Option<Scope>, Fail> {
     known(read_ctor_of(&layout, &oracle, scope(12)))
 }
 
-// Ends of paths by a constructor's label from `A`, and its constructor.
+/// Ends of paths by a constructor's label from `A`, and its constructor.
 const CTOR_ENDS: [(&[u32], Option<u32>); 5] = [
     (&[], None),
     (&[18], Some(18)),

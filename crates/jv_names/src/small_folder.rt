@@ -118,7 +118,7 @@ fn member_class(alloc: Global, words: &[u8], number: u32) -> Result<Member, Allo
     Ok(nested(decl))
 }
 
-// `private int x; int y; protected int z; public int m(); protected class M {}`
+/// `private int x; int y; protected int z; public int m(); protected class M {}`
 fn members_of_a(alloc: Global) -> Result<Vec<Member>, AllocError>
     ensures { IfOk result (λ ms. body_names (member_trees ms.items) ≡ 5) }
 {
@@ -132,7 +132,7 @@ fn members_of_a(alloc: Global) -> Result<Vec<Member>, AllocError>
     Ok(members)
 }
 
-// `public class A { .. }`
+/// `public class A { .. }`
 fn class_a(alloc: Global) -> Result<TypeDecl, AllocError>
     ensures { IfOk result (λ d. decl_names (type_decl_tree d) < 100) }
 {
@@ -154,7 +154,7 @@ fn file_of(alloc: Global, clause: Name, types: Vec<TypeDecl>) -> Unit
     unit(Some(clause), Vec::new(alloc), types)
 }
 
-// A file of `java.lang` with a public class.
+/// A file of `java.lang` with a public class.
 fn lang_file(alloc: Global, number: u32) -> Result<Unit, AllocError>
     ensures { IfOk result (λ u. unit_names (tree_of u) < 1000) }
 {
@@ -163,7 +163,7 @@ fn lang_file(alloc: Global, number: u32) -> Result<Unit, AllocError>
     Ok(file_of(alloc, Name { ids }, types))
 }
 
-// `package p;` with the classes `A` and `C`
+/// `package p;` with the classes `A` and `C`
 fn file_p(alloc: Global) -> Result<Unit, AllocError>
     ensures { IfOk result (λ u. unit_names (tree_of u) < 1000) }
 {
@@ -172,7 +172,7 @@ fn file_p(alloc: Global) -> Result<Unit, AllocError>
     Ok(file_of(alloc, Name { ids }, types))
 }
 
-// `package q;` with the class `B`
+/// `package q;` with the class `B`
 fn file_q(alloc: Global) -> Result<Unit, AllocError>
     ensures { IfOk result (λ u. unit_names (tree_of u) < 1000) }
 {

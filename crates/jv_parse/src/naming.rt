@@ -10,7 +10,7 @@ use jv_lex::{Token, TokenKind};
 use jv_tree::{Ident, NameId, Names};
 use std::alloc::{AllocError, Global};
 
-// The numbers of the keywords that are literals.
+/// The numbers of the keywords that are literals.
 const TRUE: u8 = 50;
 
 const FALSE: u8 = 51;
@@ -43,7 +43,7 @@ pub(crate) fn name_tokens(
     Ok(terminals)
 }
 
-// A token as a terminal; the text of an identifier becomes a name.
+/// A token as a terminal; the text of an identifier becomes a name.
 fn name_token(source: &str, token: &Token, names: &mut Names) -> Result<Terminal, AllocError>
     requires placed { IsPlaced source.now token.now }
     requires room { length names.old < u32.MAX }
@@ -59,7 +59,7 @@ fn name_token(source: &str, token: &Token, names: &mut Names) -> Result<Terminal
     Ok(terminal_at(token.kind, token.start, id))
 }
 
-// The terminal of a kind at a place, an identifier with this number.
+/// The terminal of a kind at a place, an identifier with this number.
 fn terminal_at(kind: TokenKind, at: u32, id: NameId) -> Terminal
     ensures { result ≡ terminal_at kind at id.0 }
 {

@@ -24,8 +24,8 @@ use jv_parse_expr::fault::Fault;
 use jv_tree::{Names, Unit};
 use std::alloc::Global;
 
-// How many levels the readers need for terminals whose load stays below 201. Fields, calls and indexes behind one
-// another are no levels.
+/// How many levels the readers need for terminals whose load stays below 201. Fields, calls and indexes behind one
+/// another are no levels.
 const LEVELS: u32 = 400;
 
 /// How many bytes of stack a thread needs at most that calls `parse` and lets go of the tree, with room to spare: 8 MiB.
@@ -68,7 +68,7 @@ pub fn parse(
     tree(alloc, &terminals)
 }
 
-// The tree of terminals.
+/// The tree of terminals.
 fn tree(alloc: Global, terminals: &[Terminal]) -> Result<Unit, ParseFault>
     requires { length terminals.now < 2 ^ 32 }
     ensures { Says terminals.now result }

@@ -68,7 +68,7 @@ pub enum Operand {
     Of(TypeRef),
 }
 
-// Fields, calls and indexes nest as deep as a source is long, so what they stand behind is let go in a loop.
+/// Fields, calls and indexes nest as deep as a source is long, so what they stand behind is let go in a loop.
 impl Drop for ExprKind {
     #[cycle(release)]
     fn drop(mut self) {

@@ -13,7 +13,7 @@ fn ident(at: u32) -> Ident {
     Ident { at, id: NameId(0) }
 }
 
-// A name of one identifier at the offset.
+/// A name of one identifier at the offset.
 fn named(alloc: Global, at: u32) -> Result<Expr, Fail> {
     let ids = vec![in alloc; ident(at)]?;
     Ok(name_expression(at, Name { ids }))

@@ -37,7 +37,7 @@ pub(crate) fn plain(base: TypeBase) -> Ty {
     Ty { base, dims: 0 }
 }
 
-// A type without a class, with so many pairs of brackets.
+/// A type without a class, with so many pairs of brackets.
 fn other(base: TypeBase, dims: u8) -> Side<'static> {
     Side {
         ty: Ty { base, dims },

@@ -43,7 +43,7 @@ impl<R: Files + AllocGlobal + Drop> DirTree<R> {
         DirTree { rt, dir, faults: 0 }
     }
 
-    // Counts a fault.
+    /// Counts a fault.
     fn counted<T>(&mut self, answer: Result<T, TreeFault>) -> Result<T, TreeFault>
         ensures same { result ≡ answer }
         ensures count { self.old ≤ self.new }

@@ -6,11 +6,11 @@ use crate::content::Content;
 use crate::java_path::is_java_path;
 use std::alloc::{AllocError, Global};
 
-// The files of a tree over memory, in the order in which they came.
+/// The files of a tree over memory, in the order in which they came.
 #[derive(Drop)]
 pub(crate) struct FileList {
     files: Vec<(String, Vec<u8>)>,
-    // Where the next look-up begins: behind the file that was found last.
+    /// Where the next look-up begins: behind the file that was found last.
     next: usize,
 }
 
@@ -57,7 +57,7 @@ fn java_paths_of(alloc: Global, files: &[(String, Vec<u8>)]) -> Result<Vec<Strin
     Ok(paths)
 }
 
-// Files are mostly read in their order, so the place behind the last one is tried first.
+/// Files are mostly read in their order, so the place behind the last one is tried first.
 fn position(files: &[(String, Vec<u8>)], next: usize, path: &str) -> usize
     requires { HasFile (files_of files.now) path.now }
     ensures in_range { result < length files.now }

@@ -81,7 +81,7 @@ impl Sink for MemSink {
     }
 }
 
-// What fits of the piece behind so many bytes.
+/// What fits of the piece behind so many bytes.
 fn front_of(piece: &[u8], written: usize, room: Option<u64>) -> &[u8]
     ensures { result.now ≡ piece_within room written piece.now }
 {

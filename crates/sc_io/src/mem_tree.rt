@@ -62,7 +62,7 @@ impl MemTree {
         }
     }
 
-    // Counts a call, and fails where its number is among those that are to fail.
+    /// Counts a call, and fails where its number is among those that are to fail.
     fn begin_call(&mut self) -> Result<(), TreeFault>
         ensures distinct { HasDistinctPaths self.new.files }
         ensures count { self.old.faults ≤ self.new.faults }

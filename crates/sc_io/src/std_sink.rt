@@ -57,7 +57,7 @@ impl<R: Print + Drop> Sink for StdSink<R> {
     }
 }
 
-// Writes the piece, again and again where a signal cuts a write short.
+/// Writes the piece, again and again where a signal cuts a write short.
 fn write_whole<R: Print>(rt: &R, piece: &[u8]) -> io::Result<()> {
     let mut rest = piece;
     for _ in 0..u64::MAX {

@@ -52,7 +52,7 @@ fn put_mark(answer: Result<(), SinkFault>) -> char {
     }
 }
 
-// The paths in order, each with a space behind it.
+/// The paths in order, each with a space behind it.
 fn listed(alloc: Global, mut paths: Vec<String>) -> Result<String, AllocError> {
     paths.sort()?;
     let mut text = String::new(alloc);
@@ -153,7 +153,7 @@ fn a_cut_put_takes_a_front_and_fails(rt: HostRuntime) -> Result<(), Fail> {
     Ok(())
 }
 
-// A fresh folder for one test.
+/// A fresh folder for one test.
 fn fresh_folder(rt: &HostRuntime, name: &str) -> io::Result<String> {
     let temp = env::temp_dir(rt)?;
     let id = process::id(rt.process());
@@ -197,7 +197,7 @@ fn walks_the_file_system(rt: HostRuntime) -> Result<(), Fail> {
     Ok(())
 }
 
-// A folder with so many levels of folders, the root among them, with a source in the innermost.
+/// A folder with so many levels of folders, the root among them, with a source in the innermost.
 fn nested(rt: &HostRuntime, levels: u32) -> io::Result<String> {
     let alloc = rt.alloc();
     let folder = fresh_folder(rt, "nested")?;
@@ -246,7 +246,7 @@ fn refuses_what_the_system_refuses(rt: HostRuntime) -> Result<(), Fail> {
     Ok(())
 }
 
-// Takes two bytes at a time, and nothing once its room is used up.
+/// Takes two bytes at a time, and nothing once its room is used up.
 #[derive(Drop)]
 struct Narrow<'a> {
     room: &'a Cell<usize>,

@@ -10,29 +10,29 @@ use std::io::{self, ErrorKind};
 use std::path::Path;
 use std::rt::Files;
 
-// The root has level 1.
+/// The root has level 1.
 const MAX_LEVEL: u32 = 64;
 
 const MAX_ENTRIES: u32 = 1_000_000;
 
-// A folder that is still to be read: its path below the root, which is empty at the root itself, and
-// its level.
+/// A folder that is still to be read: its path below the root, which is empty at the root itself, and
+/// its level.
 #[derive(Drop)]
 struct Folder {
     path: String,
     level: u32,
 }
 
-// What a walk has found and what it still has to read.
+/// What a walk has found and what it still has to read.
 #[derive(Drop)]
 struct Walk {
     folders: Vec<Folder>,
     paths: Vec<String>,
-    // How many entries may still come.
+    /// How many entries may still come.
     room: u32,
 }
 
-// The paths of the Java sources below a folder.
+/// The paths of the Java sources below a folder.
 pub(crate) fn java_paths_below<R: Files + AllocGlobal + Drop>(
     rt: &R,
     alloc: Global,
@@ -77,8 +77,8 @@ impl Walk {
         Ok(())
     }
 
-    // What stands at `place` in a folder of this level, with its path below the root. What is neither
-    // a file nor a folder is skipped, and so is a link that leads nowhere.
+    /// What stands at `place` in a folder of this level, with its path below the root. What is neither
+    /// a file nor a folder is skipped, and so is a link that leads nowhere.
     fn take_entry<R: Files>(
         &mut self,
         rt: &R,
@@ -139,7 +139,7 @@ impl Walk {
     }
 }
 
-// The path of something in a folder.
+/// The path of something in a folder.
 pub(crate) fn joined(alloc: Global, folder: &str, name: &str) -> Result<String, AllocError> {
     let mut path = String::from_str(alloc, folder)?;
     if !folder.is_empty() && !folder.ends_with('/') {

@@ -24,14 +24,14 @@ pub fn read_sources(alloc: Global, files: &[SourceFile]) -> Result<Sources, Allo
     Ok(reading.finish())
 }
 
-// The bytes of the prelude's first file.
+/// The bytes of the prelude's first file.
 fn object_source() -> &'static [u8]
     ensures { result.now ≡ object_source }
 {
     prelude::OBJECT.as_bytes()
 }
 
-// The bytes of the prelude's second file.
+/// The bytes of the prelude's second file.
 fn string_source() -> &'static [u8]
     ensures { result.now ≡ string_source }
 {

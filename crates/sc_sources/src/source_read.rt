@@ -18,7 +18,7 @@ pub(crate) enum SourceRead {
     Fault { at: u32, code: u8 },
 }
 
-// The codes of what may be wrong with a source.
+/// The codes of what may be wrong with a source.
 const NOT_UTF8: u8 = 1;
 
 const NO_TREE: u8 = 2;
@@ -51,7 +51,7 @@ pub(crate) fn read_source(
     }
 }
 
-// What a source without tokens was read as.
+/// What a source without tokens was read as.
 fn without_tokens(fault: LexFault) -> Result<SourceRead, AllocError>
     ensures reads { IfOk result (λ r. (bytes : List ℕ) (names : List (List ℕ)) → IsFaultOf bytes fault → Reads bytes names names (outcome_of r)) }
     ensures plain { IfOk result IsPlain }
@@ -70,7 +70,7 @@ fn without_tokens(fault: LexFault) -> Result<SourceRead, AllocError>
     }
 }
 
-// What a source of these tokens was read as.
+/// What a source of these tokens was read as.
 fn read_tokens(
     alloc: Global,
     source: &str,
@@ -98,7 +98,7 @@ fn read_tokens(
     }
 }
 
-// Where the token of a number starts, or where there is none the end of the source.
+/// Where the token of a number starts, or where there is none the end of the source.
 fn start_of(source: &str, tokens: &[Token], number: u32) -> u32
     requires { length source.now < 2 ^ 32 }
     ensures { result ≡ start_of source.now (slice_get tokens.now number) }

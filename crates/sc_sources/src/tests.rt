@@ -10,7 +10,7 @@ use std::alloc::{AllocError, Global};
 use std::fmt::Write;
 use std::test::Fail;
 
-// Whether files are within the limits.
+/// Whether files are within the limits.
 fn are_within_limits(files: &[SourceFile]) -> bool
     ensures { IsTrue result → AreWithinLimits (sources_of files.now) }
 {
@@ -27,7 +27,7 @@ fn are_within_limits(files: &[SourceFile]) -> bool
     total <= 4_194_304
 }
 
-// Files of these bytes.
+/// Files of these bytes.
 fn files_of(alloc: Global, sources: &[&[u8]]) -> Result<Vec<SourceFile>, AllocError> {
     let mut files = Vec::new(alloc);
     for source in sources {
@@ -39,7 +39,7 @@ fn files_of(alloc: Global, sources: &[&[u8]]) -> Result<Vec<SourceFile>, AllocEr
     Ok(files)
 }
 
-// How many trees there are, and how many names, or each fault by its file, its place and its code.
+/// How many trees there are, and how many names, or each fault by its file, its place and its code.
 fn shown(alloc: Global, sources: &[&[u8]]) -> Result<String, Fail> {
     let files = files_of(alloc, sources)?;
     if !are_within_limits(&files) {
@@ -63,8 +63,8 @@ fn shown(alloc: Global, sources: &[&[u8]]) -> Result<String, Fail> {
     Ok(text)
 }
 
-// The prelude has 14 names: `java`, `lang`, `Object`, `equals`, `o`, `hashCode`, `String`, `toString`, `length`,
-// `charAt`, `i`, `isEmpty`, `concat` and `s`.
+/// The prelude has 14 names: `java`, `lang`, `Object`, `equals`, `o`, `hashCode`, `String`, `toString`, `length`,
+/// `charAt`, `i`, `isEmpty`, `concat` and `s`.
 const FOLDERS: [(&[&[u8]], &str); 13] = [
     (&[], "2 trees, 14 names"),
     (&[b"class A {}"], "3 trees, 15 names"),
@@ -99,7 +99,7 @@ fn folders(rt: HostRuntime) -> Result<(), Fail> {
     Ok(())
 }
 
-// A field whose value stands between so many pairs of parentheses.
+/// A field whose value stands between so many pairs of parentheses.
 fn nested(alloc: Global, times: u32) -> Result<String, AllocError> {
     let mut source = String::from_str(alloc, "class A { int a = ")?;
     for _time in 0..times {

@@ -19,7 +19,7 @@ pub enum Expr {
     Star(Box<Expr>),
 }
 
-// An expression owns its parts alone, so it may move to another thread and be shared by several.
+/// An expression owns its parts alone, so it may move to another thread and be shared by several.
 unsafe impl Send for Expr {}
 
 unsafe impl Sync for Expr {}

@@ -9,7 +9,7 @@ use std::thread;
 use std::thread::Threads;
 use std::time::{Clock, Duration};
 
-// The number of a seat, and how many notes it had before.
+/// The number of a seat, and how many notes it had before.
 type Note = (u32, u32);
 
 #[derive(Drop)]
@@ -49,7 +49,7 @@ fn empty(alloc: Global) -> Tally
     }
 }
 
-// Adds one note, and keeps the value for so long.
+/// Adds one note, and keeps the value for so long.
 fn tell<R: Wait + Clock>(
     rt: &R,
     turn: &Turn<Tally>,
@@ -73,7 +73,7 @@ fn tell<R: Wait + Clock>(
     Ok(())
 }
 
-// Gives the value back as it was.
+/// Gives the value back as it was.
 fn pass<R: Wait>(rt: &R, turn: &Turn<Tally>, seat: &mut TurnSeat<Tally>)
     requires own { IsOf turn.now seat.old }
     requires outside { (seat.old.inside ≡ false) × (seat.old.spent ≡ false) }
@@ -84,7 +84,7 @@ fn pass<R: Wait>(rt: &R, turn: &Turn<Tally>, seat: &mut TurnSeat<Tally>)
     turn.unlock(seat, tally);
 }
 
-// Adds so many notes, counted from 0, and then gives the value back as it was.
+/// Adds so many notes, counted from 0, and then gives the value back as it was.
 fn tell_all<R: Wait + Clock>(
     rt: &R,
     turn: &Turn<Tally>,
@@ -104,7 +104,7 @@ fn tell_all<R: Wait + Clock>(
     Ok(seat)
 }
 
-// Two threads add notes, and the lock is closed with both seats.
+/// Two threads add notes, and the lock is closed with both seats.
 fn two<R: Threads + Wait + Clock + Sync>(
     rt: &R,
     alloc: Global,
@@ -149,7 +149,7 @@ fn two<R: Threads + Wait + Clock + Sync>(
     Ok(turn.close(seats).notes)
 }
 
-// As many threads as seats do the same, and the lock is closed with one seat that took the others back.
+/// As many threads as seats do the same, and the lock is closed with one seat that took the others back.
 fn many<R: Threads + Wait + Clock + Sync>(
     rt: &R,
     alloc: Global,
@@ -217,7 +217,7 @@ fn gather_back(
     Ok(gatherer)
 }
 
-// Whether the notes of each of so many seats count from 0, and none is missing or too many.
+/// Whether the notes of each of so many seats count from 0, and none is missing or too many.
 fn are_counted(all: &[Note], seats: u32, notes: u32) -> bool {
     for seat in 0..seats {
         let mut next = 0;

@@ -9,7 +9,7 @@ use std::alloc::{AllocError, Global};
 use std::test::Fail;
 use std::thread;
 
-// How a source ended: the number of the token that is too deep, or one of these.
+/// How a source ended: the number of the token that is too deep, or one of these.
 const PARSED: u32 = 1_000_000;
 
 const REFUSED: u32 = 1_000_001;
@@ -35,7 +35,7 @@ fn outcome(alloc: Global, source: &str) -> u32 {
     }
 }
 
-// A front, a text so many times, a middle, another text as many times, and a rest.
+/// A front, a text so many times, a middle, another text as many times, and a rest.
 fn repeated(alloc: Global, parts: [&str; 5], times: u32) -> Result<String, AllocError> {
     let [front, left, middle, right, rest] = parts;
     let mut source = String::new(alloc);
@@ -51,7 +51,7 @@ fn repeated(alloc: Global, parts: [&str; 5], times: u32) -> Result<String, Alloc
     Ok(source)
 }
 
-// Parts of a source, how often they stand at most, and the first deep token where they stand once more.
+/// Parts of a source, how often they stand at most, and the first deep token where they stand once more.
 const DEEPEST: [([&str; 5], u32, u32); 21] = [
     (
         [
@@ -106,7 +106,7 @@ const DEEPEST: [([&str; 5], u32, u32); 21] = [
     ),
 ];
 
-// The outcome of a source, on a thread with the stack that is said to be enough.
+/// The outcome of a source, on a thread with the stack that is said to be enough.
 fn outcome_apart<R: thread::Threads>(rt: &R, alloc: Global, source: String) -> Result<u32, Fail> {
     let child = thread::Builder::new()
         .stack_size(PARSE_STACK)
@@ -127,8 +127,8 @@ fn deepest_sources(rt: HostRuntime) -> Result<(), Fail> {
     Ok(())
 }
 
-// What stands in front of a spine, a link of it and what stands behind it, how many links 1 MiB has room for, and how
-// the source ends.
+/// What stands in front of a spine, a link of it and what stands behind it, how many links 1 MiB has room for, and how
+/// the source ends.
 const SPINES: [([&str; 3], u32, u32); 6] = [
     (["class A { int a = this", ".a", "; }"], 524_200, PARSED),
     (["class A { int a = this", ".a", ""], 524_200, REFUSED),

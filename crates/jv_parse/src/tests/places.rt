@@ -9,7 +9,7 @@ use jv_tree::Names;
 use std::alloc::Global;
 use std::test::Fail;
 
-// Where tokens are refused, or nothing where they are a file.
+/// Where tokens are refused, or nothing where they are a file.
 fn place(alloc: Global, source: &str, tokens: &[Token]) -> Result<Option<u32>, Fail>
     requires placed { All (IsPlaced source.now) tokens.now }
     requires few { length tokens.now ≤ 1048576 }
@@ -21,7 +21,7 @@ fn place(alloc: Global, source: &str, tokens: &[Token]) -> Result<Option<u32>, F
     }
 }
 
-// Where so many of the tokens are refused, or nothing where they are a file.
+/// Where so many of the tokens are refused, or nothing where they are a file.
 fn place_of_front(
     alloc: Global,
     source: &str,
@@ -35,7 +35,7 @@ fn place_of_front(
     place(alloc, source, &tokens[..count])
 }
 
-// A source and the number of the token that is refused, from 0.
+/// A source and the number of the token that is refused, from 0.
 const NUMBERS: [(&str, u32); 8] = [
     ("class A {", 3),
     ("class A { int = 1; }", 4),
@@ -47,11 +47,11 @@ const NUMBERS: [(&str, u32); 8] = [
     ("class A {} }", 4),
 ];
 
-// Sources that are cut where they cease to begin a file: what begins one, and what stands behind it. Its first token is refused, or where
-// nothing stands behind it, the file ends too soon.
+/// Sources that are cut where they cease to begin a file: what begins one, and what stands behind it. Its first token is refused, or where
+/// nothing stands behind it, the file ends too soon.
 type Cut = (&'static str, &'static str);
 
-// Package.
+/// Package.
 const PACKAGE: [Cut; 9] = [
     ("package", ""),
     ("package ", "; class A {}"),
@@ -64,7 +64,7 @@ const PACKAGE: [Cut; 9] = [
     ("; ", "package a;"),
 ];
 
-// Imports.
+/// Imports.
 const IMPORTS: [Cut; 7] = [
     ("import ", "static a.b;"),
     ("import ", "*;"),
@@ -75,7 +75,7 @@ const IMPORTS: [Cut; 7] = [
     ("class A {} ", "import a;"),
 ];
 
-// Headers.
+/// Headers.
 const HEADERS: [Cut; 14] = [
     ("", "int a;"),
     ("", "@B class A {}"),
@@ -93,7 +93,7 @@ const HEADERS: [Cut; 14] = [
     ("class A {} ", "}"),
 ];
 
-// Members, first part.
+/// Members, first part.
 const MEMBERS_FIRST_PART: [Cut; 12] = [
     ("class A { int ", "; }"),
     ("class A { int a", ""),
@@ -109,7 +109,7 @@ const MEMBERS_FIRST_PART: [Cut; 12] = [
     ("class A { int f(final ", ") {} }"),
 ];
 
-// Members, second part.
+/// Members, second part.
 const MEMBERS_SECOND_PART: [Cut; 11] = [
     ("class A { int f() ", "int g() {} }"),
     ("class A { void a", "; }"),
@@ -124,7 +124,7 @@ const MEMBERS_SECOND_PART: [Cut; 11] = [
     ("interface A { A", "(); }"),
 ];
 
-// Statements, first part.
+/// Statements, first part.
 const STATEMENTS_FIRST_PART: [Cut; 16] = [
     ("class A { void m() { ", "class B {} } }"),
     ("class A { void m() { int", "; } }"),
@@ -144,7 +144,7 @@ const STATEMENTS_FIRST_PART: [Cut; 16] = [
     ("class A { void m() { while (a) b ", "c; } }"),
 ];
 
-// Statements, second part.
+/// Statements, second part.
 const STATEMENTS_SECOND_PART: [Cut; 15] = [
     ("class A { void m() { do ; ", "until (a); } }"),
     ("class A { void m() { do ; while (a) ", "} }"),
@@ -163,7 +163,7 @@ const STATEMENTS_SECOND_PART: [Cut; 15] = [
     ("class A { void m() { if (a) { b(); }", ""),
 ];
 
-// Expressions, first part.
+/// Expressions, first part.
 const EXPRESSIONS_FIRST_PART: [Cut; 12] = [
     ("class A { int a = ", "; }"),
     ("class A { int a = b ", "c; }"),
@@ -179,7 +179,7 @@ const EXPRESSIONS_FIRST_PART: [Cut; 12] = [
     ("class A { int a = ((b) + (c ", "d)); }"),
 ];
 
-// Expressions, second part.
+/// Expressions, second part.
 const EXPRESSIONS_SECOND_PART: [Cut; 12] = [
     ("class A { int a = b ? c", "; }"),
     ("class A { int a = b ? c : d ", "= e; }"),
@@ -195,7 +195,7 @@ const EXPRESSIONS_SECOND_PART: [Cut; 12] = [
     ("class A { int[] a = {, ", "1}; }"),
 ];
 
-// Casts.
+/// Casts.
 const CASTS: [Cut; 6] = [
     ("class A { int a = (int) ", "; }"),
     ("class A { int a = (int ", "b); }"),
@@ -205,7 +205,7 @@ const CASTS: [Cut; 6] = [
     ("class A { int a = (b) - ", "; }"),
 ];
 
-// Array creations.
+/// Array creations.
 const ARRAY_CREATIONS: [Cut; 5] = [
     ("class A { int[] a = new int", "; }"),
     ("class A { int[] a = new int", "(1); }"),
@@ -214,14 +214,14 @@ const ARRAY_CREATIONS: [Cut; 5] = [
     ("class A { int[] a = new int[3][] ", "{}; }"),
 ];
 
-// Literals at the end.
+/// Literals at the end.
 const LITERALS_AT_THE_END: [Cut; 3] = [
     ("class A { int a = 1", ""),
     ("class A { int a = -2147483648", ""),
     ("class A { String a = b + \"s\"", ""),
 ];
 
-// How many tokens a text has.
+/// How many tokens a text has.
 fn count_of(alloc: Global, text: &str) -> Result<u32, Fail>
     requires { length text.now ≤ 1000 }
 {
@@ -232,7 +232,7 @@ fn count_of(alloc: Global, text: &str) -> Result<u32, Fail>
     Ok(tokens.len() as u32)
 }
 
-// Where a source is refused, or nothing where it is a file.
+/// Where a source is refused, or nothing where it is a file.
 fn place_in(alloc: Global, source: &str) -> Result<Option<u32>, Fail>
     requires { length source.now ≤ 1000 }
 {
@@ -253,7 +253,7 @@ fn numbers_of_refused_tokens(rt: HostRuntime) -> Result<(), Fail> {
     Ok(())
 }
 
-// The first of these sources that is refused elsewhere than where it is cut, where there is one.
+/// The first of these sources that is refused elsewhere than where it is cut, where there is one.
 fn first_misplaced<'a>(
     alloc: Global,
     sources: &[(&'a str, &'a str)],
@@ -356,7 +356,7 @@ fn literals_at_the_end_are_cut_where_they_cease(rt: HostRuntime) -> Result<(), F
     Ok(())
 }
 
-// Files of the profile.
+/// Files of the profile.
 const FILES: [&str; 3] = [
     "package a.b; import c.D; import e.*; ; public final class A extends B.C implements D, E { private int a, b = {1, {2},}; }",
     "class A { static int f(final int[] a, b.C c) { for (int i = 0; i < a.length; i++) { if (a[i] == 0) return -i; else a[i] += (int) - c.d(i)[1]; } do { f(new int[2][], (B) c); } while (!(c instanceof D[]) && a != null); return a ? b : 'c'; } }",

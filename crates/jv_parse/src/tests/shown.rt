@@ -7,7 +7,7 @@ use jv_tree::{
 use std::alloc::{AllocError, Global};
 use std::fmt::Write;
 
-// A part that is still to be written.
+/// A part that is still to be written.
 #[derive(Clone, Copy)]
 enum Part<'a> {
     Text(&'a str),
@@ -94,7 +94,7 @@ fn put_names<'a>(
     Ok(())
 }
 
-// An expression of one word.
+/// An expression of one word.
 fn word_of<'a>(kind: &ExprKind) -> Option<&'a str> {
     match kind {
         ExprKind::Int => Some(" #int"),
@@ -125,7 +125,7 @@ fn parts_of_expr<'a>(alloc: Global, expr: &'a Expr) -> Parts<'a> {
     Ok(parts)
 }
 
-// An operator with its operands.
+/// An operator with its operands.
 fn put_operation<'a>(parts: &mut Vec<Part<'a>>, kind: &'a ExprKind) -> Result<(), AllocError> {
     match kind {
         ExprKind::Pre(_, operator, of) => {
@@ -179,7 +179,7 @@ fn put_links<'a>(
     Ok(())
 }
 
-// A field, a call, an index, or what `new` makes.
+/// A field, a call, an index, or what `new` makes.
 fn put_primary<'a>(parts: &mut Vec<Part<'a>>, kind: &'a ExprKind) -> Result<(), AllocError> {
     match kind {
         ExprKind::Field(object, ident) => {
@@ -259,7 +259,7 @@ fn parts_of_stmt<'a>(alloc: Global, stmt: &'a Stmt) -> Parts<'a> {
     Ok(parts)
 }
 
-// A statement without others in it.
+/// A statement without others in it.
 fn put_simple<'a>(parts: &mut Vec<Part<'a>>, kind: &'a StmtKind) -> Result<(), AllocError> {
     match kind {
         StmtKind::Local(is_final, ty, vars) => {
@@ -282,7 +282,7 @@ fn put_simple<'a>(parts: &mut Vec<Part<'a>>, kind: &'a StmtKind) -> Result<(), A
     Ok(())
 }
 
-// An `if` or a loop.
+/// An `if` or a loop.
 fn put_guarded<'a>(parts: &mut Vec<Part<'a>>, kind: &'a StmtKind) -> Result<(), AllocError> {
     match kind {
         StmtKind::If(branches, otherwise) => {
@@ -432,7 +432,7 @@ fn write_type(text: &mut String, names: &Names, ty: &TypeRef) -> Result<(), Allo
     Ok(())
 }
 
-// Writes a part, or gives the parts that it has.
+/// Writes a part, or gives the parts that it has.
 fn write_part<'a>(alloc: Global, text: &mut String, names: &Names, part: Part<'a>) -> Parts<'a> {
     match part {
         Part::Text(word) => text.push_str(word)?,

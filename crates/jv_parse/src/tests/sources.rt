@@ -12,7 +12,7 @@ use std::fmt::Write;
 use std::process::Abort;
 use std::test::Fail;
 
-// The tree of a source, or its fault.
+/// The tree of a source, or its fault.
 fn shown(alloc: Global, source: &str) -> Result<String, Fail>
     requires { length source.now ≤ 1048576 }
 {
@@ -282,7 +282,7 @@ const EXPRESSIONS: [(&str, &str); 62] = [
     ("(int[]) -a", "no"),
 ];
 
-// Each source between `front` and `back`, with its tree between those of `before` and `behind`.
+/// Each source between `front` and `back`, with its tree between those of `before` and `behind`.
 fn compare(
     rt: &impl Abort,
     alloc: Global,
@@ -332,7 +332,7 @@ fn tables_of_sources(rt: HostRuntime) -> Result<(), Fail> {
     Ok(())
 }
 
-// The files of a small project.
+/// The files of a small project.
 const PROJECT: [&str; 4] = [
     "package app;
 import shapes.*;

@@ -55,7 +55,7 @@ const SHIFT_RIGHT_ZERO: u8 = 38;
 
 const INSTANCE_OF: u8 = 153;
 
-// What an operator gives that takes no such operands.
+/// What an operator gives that takes no such operands.
 const NONE: Option<TypeBase> = None;
 
 fn gives(given: Option<Ty>, base: Option<TypeBase>) -> bool {
