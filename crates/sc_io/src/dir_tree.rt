@@ -6,7 +6,7 @@ ghost use Rattle.sc_io.specs.SourceTree.{IsWithin};
 use crate::content::Content;
 use crate::fault::TreeFault;
 use crate::source_tree::SourceTree;
-use crate::walk::{fault_of, java_paths_below, joined};
+use crate::walk::{MAX_ENTRIES, fault_of, java_paths_below, joined};
 use std::alloc::Global;
 use std::fs::File;
 use std::io::Read;
@@ -71,7 +71,7 @@ impl<R: Files + AllocGlobal + Drop> SourceTree for DirTree<R> {
         ensures sources { IfOk result (λ paths. AreSources paths.items) }
         ensures failed { result ≡ Err TreeFault.Failed → HasRisen self.old self.new }
     {
-        let paths = java_paths_below(&self.rt, alloc, self.dir.as_str());
+        let paths = java_paths_below(&self.rt, alloc, self.dir.as_str(), MAX_ENTRIES);
         self.counted(paths)
     }
 

@@ -2,12 +2,13 @@ ghost use Rattle.std.specs.Prelude.{◌≡◌, [], ◌∷◌, IfOk, codes, map};
 ghost use Rattle.sc_io.specs.FileList.{files_of};
 ghost use Rattle.sc_io.specs.SourceTree.{HasDistinctPaths};
 
+use crate::walk::java_paths_below;
 use crate::{
     Content, CutSink, DirTree, MemSink, MemTree, PlainSink, PlainTree, Sink, SinkFault, SourceTree,
     StdSink, TreeFault,
 };
 use std::alloc::{AllocError, Global};
-use std::cell::Cell;
+use std::cell::{Cell, RefCell};
 use std::fmt::Display;
 use std::fs::Permissions;
 use std::os::unix::fs::{PermissionsExt, symlink};
@@ -246,10 +247,32 @@ fn refuses_what_the_system_refuses(rt: HostRuntime) -> Result<(), Fail> {
     Ok(())
 }
 
-/// Takes two bytes at a time, and nothing once its room is used up.
+#[test]
+fn walks_up_to_a_number_of_entries(rt: HostRuntime) -> Result<(), Fail> {
+    let alloc = rt.alloc();
+    let folder = fresh_folder(&rt, "entries")?;
+    let root = folder.as_str();
+    // Four entries: a folder, two sources and another file.
+    fs::create_dir_all(&rt, below(alloc, root, "a")?)?;
+    fs::write(&rt, below(alloc, root, "A.java")?, "class A {}")?;
+    fs::write(&rt, below(alloc, root, "a/B.java")?, "class B {}")?;
+    fs::write(&rt, below(alloc, root, "a/notes.txt")?, "some notes")?;
+    for room in 0..4 {
+        assert_eq!(rt; mark(java_paths_below(&rt, alloc, root, room)), 'F');
+    }
+    for room in 4..6 {
+        let paths = java_paths_below(&rt, alloc, root, room)?;
+        assert_eq!(rt; listed(alloc, paths)?.as_str(), "A.java a/B.java ");
+    }
+    fs::remove_dir_all(&rt, root)?;
+    Ok(())
+}
+
+/// Takes two bytes at a time, keeps them, and takes nothing once its room is used up.
 #[derive(Drop)]
 struct Narrow<'a> {
     room: &'a Cell<usize>,
+    taken: &'a RefCell<Vec<u8>>,
 }
 
 impl Print for Narrow<'_> {
@@ -268,6 +291,10 @@ impl Print for Narrow<'_> {
     fn write_some(&self, bytes: &[u8]) -> io::Result<usize> {
         let room = self.room.get();
         let count = bytes.len().min(2).min(room);
+        let Ok(mut taken) = self.taken.try_borrow_mut() else {
+            return Err(io::Error::from(io::ErrorKind::WouldBlock));
+        };
+        taken.extend_from_slice(&bytes[..count])?;
         self.room.set(room - count);
         Ok(count)
     }
@@ -275,13 +302,19 @@ impl Print for Narrow<'_> {
 
 #[test]
 fn writes_pieces_out(rt: HostRuntime) -> Result<(), Fail> {
+    let alloc = rt.alloc();
     let mut sink = StdSink::new(rt);
     assert_eq!(rt; put_mark(sink.put(b"a line\n")), '.');
     let room = Cell::new(5);
-    let mut narrow = StdSink::new(Narrow { room: &room });
+    let taken = RefCell::new(Vec::new(alloc));
+    let mut narrow = StdSink::new(Narrow {
+        room: &room,
+        taken: &taken,
+    });
     assert_eq!(rt; put_mark(narrow.put(b"abc")), '.');
     assert_eq!(rt; put_mark(narrow.put(b"def")), 'F');
     assert_eq!(rt; put_mark(narrow.put(b"")), '.');
     assert_eq!(rt; room.get(), 0);
+    assert_eq!(rt; taken.try_borrow()?.as_slice(), b"abcde".as_slice());
     Ok(())
 }

@@ -13,7 +13,8 @@ use std::rt::Files;
 /// The root has level 1.
 const MAX_LEVEL: u32 = 64;
 
-const MAX_ENTRIES: u32 = 1_000_000;
+/// How many entries a walk takes.
+pub(crate) const MAX_ENTRIES: u32 = 1_000_000;
 
 /// A folder that is still to be read: its path below the root, which is empty at the root itself, and
 /// its level.
@@ -32,11 +33,12 @@ struct Walk {
     room: u32,
 }
 
-/// The paths of the Java sources below a folder.
+/// The paths of the Java sources below a folder, where it has at most `room` entries in all its folders.
 pub(crate) fn java_paths_below<R: Files + AllocGlobal + Drop>(
     rt: &R,
     alloc: Global,
     dir: &str,
+    room: u32,
 ) -> Result<Vec<String>, TreeFault>
     ensures { IfOk result (λ paths. AreSources paths.items) }
 {
@@ -47,7 +49,7 @@ pub(crate) fn java_paths_below<R: Files + AllocGlobal + Drop>(
     let mut walk = Walk {
         folders: vec![in alloc; root]?,
         paths: Vec::new(alloc),
-        room: MAX_ENTRIES,
+        room,
     };
     while let Some(folder) = walk.folders.pop() {
         walk.read_folder(rt, alloc, dir, &folder)?;
