@@ -5,9 +5,8 @@ use Rattle.std.proofs.lemmas.List.{map-append}
 use Rattle.sg_base.proofs.Finite.{single}
 use Rattle.jv_tree.specs.declared.declaration.Unit.{Unit as Tree}
 use Rattle.jv_tree.specs.DeclTree.{UnitTree, tree_of}
-use Rattle.jv_tree.specs.Numbered.{IsNumbered}
+use Rattle.jv_tree.specs.Numbered.{AreNumbered, IsNumbered}
 use Rattle.jv_tree.proofs.Numbers.{unit_stays}
-use Rattle.jv_folders.specs.Numbered.{AreNumbered}
 
 module _ (m n : ℕ) (us : List UnitTree) (u : UnitTree) (old : AreNumbered m us) (more : m ≤ n) (new : IsNumbered n u) where
   one_more_numbered : AreNumbered n (us ++ u ∷ [])

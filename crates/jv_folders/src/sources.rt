@@ -4,8 +4,7 @@ ghost use Rattle.std.specs.Prelude.{◌≡◌, ◌≤◌, length, map, IfOk, OnO
 ghost use Rattle.jv_layout.specs.Folder.{layout_of};
 ghost use Rattle.jv_layout.specs.Sizes.{IsFolder};
 ghost use Rattle.jv_tree.specs.DeclTree.{tree_of};
-ghost use Rattle.jv_tree.specs.Numbered.{IsNumbered};
-ghost use Rattle.jv_folders.specs.Numbered.{AreNumbered};
+ghost use Rattle.jv_tree.specs.Numbered.{AreNumbered, IsNumbered};
 
 use jv_layout::{Layout, Place, is_folder, layout, prelude};
 use jv_lex::lex;

@@ -1,5 +1,6 @@
 -- Trees whose identifiers have numbers of names: each number is below n, which is how many names there are.
 use Rattle.std.specs.Prelude.{ℕ, ◌<◌, ◌≤◌, List, Option, None, Some, All}
+use Rattle.std.specs.List.{Contains}
 use Rattle.jv_tree.specs.declared.name.Ident.{Ident}
 use Rattle.jv_tree.specs.TypeTree.{BaseTree, boolean, char, int, long, void, named, TypeTree}
 use Rattle.jv_tree.specs.ExprTree as e
@@ -196,6 +197,10 @@ IsNumberedImport n i = IsNumberedName n i.name
 -- each identifier of the tree has the number of one of n names
 abbrev pub IsNumbered : ℕ → UnitTree → Type 0
 IsNumbered n u = IsNumberedPackage n u.package_name × All (IsNumberedImport n) u.imports × All (IsNumberedDecl n) u.types
+
+-- each identifier of the files has the number of one of so many names
+abbrev pub AreNumbered : ℕ → List UnitTree → Type 0
+AreNumbered n us = (u : UnitTree) → Contains us u → IsNumbered n u
 
 -- where there are more names, it has so too
 abbrev pub NumbersStay : Type 0

@@ -25,6 +25,7 @@ use Rattle.jv_layout.proofs.SoundSkeletons.{skeletons_are_sound}
 use Rattle.jv_names.specs.Kinds.{AreKinds}
 use Rattle.jv_names.specs.Replies.{reply_to}
 use Rattle.jv_tree.specs.DeclTree.{UnitTree, tree_of}
+use Rattle.jv_tree.specs.Numbered.{AreNumbered}
 use Rattle.jv_unit.specs.declared.folder.Folder.{Folder}
 use Rattle.jv_unit.specs.Folder.{FolderOf, IsFolderOf}
 use Rattle.jv_unit.specs.Kept.{IsWhole}
@@ -33,7 +34,7 @@ use Rattle.jv_unit.specs.Scripts.{JavaUnit, plan_of, AreNewUnits, AreUnitsOf, Is
 use Rattle.jv_unit.proofs.NewUnits.{units_are_new}
 use Rattle.sg_core.specs.Core.{run}
 use Rattle.sg_serial.specs.Serial.{IsServedBy}
-use Rattle.sc_app.specs.FolderRun.{AreNumbered, FollowsBy, IsBegun, JavaCore, IsFolderRun, IsServedIn, same_datum, setting_of_plan}
+use Rattle.sc_app.specs.FolderRun.{FollowsBy, IsBegun, JavaCore, IsFolderRun, IsServedIn, same_datum, setting_of_plan}
 
 module _ (l : LayoutOf) (names : List (List ℕ)) (us : List UnitTree) (layout : l ≡ layout_of names us) (folder : IsFolder us) where
   linked : IsLinked l

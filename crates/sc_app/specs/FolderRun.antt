@@ -1,6 +1,5 @@
 -- The run of a folder's checkers.
 use Rattle.std.specs.Prelude.{◌≡◌, ℕ, ◌+◌, ◌<◌, ◌==◌, ◌⊎◌, Bool, List, [], length, Option}
-use Rattle.std.specs.List.{Contains}
 use Rattle.sg_core.specs.declared.phase.Phase.TheVariants.{Ended, Stuck}
 use Rattle.sg_core.specs.Core.{CoreOf, IsCore, IsPhase, run}
 use Rattle.sg_query.specs.declared.answer.Answer.{Answer}
@@ -21,15 +20,9 @@ use Rattle.jv_instance.specs.declared.java.Java.{Java}
 use Rattle.jv_instance.specs.declared.pred.JavaPred.{JavaPred}
 use Rattle.jv_instance.specs.Data.{is_wanted, name_of}
 use Rattle.jv_layout.specs.Skeleton.{skeleton_of}
-use Rattle.jv_tree.specs.DeclTree.{UnitTree}
-use Rattle.jv_tree.specs.Numbered.{IsNumbered}
 use Rattle.jv_unit.specs.Folder.{FolderOf}
 use Rattle.jv_unit.specs.Plans.{JavaPlan, java_plan}
 use Rattle.jv_unit.specs.Scripts.{JavaUnit, AreNewUnits, AreUnitsOf}
-
--- each identifier of the files has the number of one of so many names
-abbrev pub AreNumbered : ℕ → List UnitTree → Type 0
-AreNumbered n us = (u : UnitTree) → Contains us u → IsNumbered n u
 
 -- ---- runs
 

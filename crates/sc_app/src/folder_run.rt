@@ -5,8 +5,9 @@ ghost use Rattle.std.specs.Arc.{arc_value};
 ghost use Rattle.jv_layout.specs.Folder.{layout_of};
 ghost use Rattle.jv_layout.specs.Sizes.{IsFolder};
 ghost use Rattle.jv_tree.specs.DeclTree.{tree_of};
+ghost use Rattle.jv_tree.specs.Numbered.{AreNumbered};
 ghost use Rattle.jv_unit.specs.Kept.{folder_of, IsWhole};
-ghost use Rattle.sc_app.specs.FolderRun.{AreNumbered, IsBegun, IsFolderRun, IsServedIn};
+ghost use Rattle.sc_app.specs.FolderRun.{IsBegun, IsFolderRun, IsServedIn};
 
 use crate::followers::run_followers;
 use jv_diag::DiagList;

@@ -1,4 +1,3 @@
-mod Members
 mod Order
 mod SortedOnce
 mod Reports

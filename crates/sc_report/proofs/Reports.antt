@@ -2,10 +2,10 @@
 use Rattle.std.proofs.Common.{◌≡◌, ℕ, List, [], ◌∷◌, ◌↔◌, inl, inr, refl, sym, ap, ◌∙◌, subst}
 use Rattle.std.specs.List.{Contains}
 use Rattle.std.specs.declared.cmp.Ordering.TheVariants.{Less}
+use Rattle.sg_base.proofs.Finite.{Contains-cons, Contains-head, Contains-tail, nothing_in}
 use Rattle.jv_diag.specs.Plain.{DiagOf}
 use Rattle.sc_io.specs.SourceTree.{FileOf}
 use Rattle.sc_report.specs.Report.{IsReportOf, IsRising, diag_cmp, report_text}
-use Rattle.sc_report.proofs.Members.{Contains-cons, Contains-head, Contains-tail, nothing_in}
 use Rattle.sc_report.proofs.Order.{not_below_each_other}
 
 -- what stands behind the first of a rising list is not the first

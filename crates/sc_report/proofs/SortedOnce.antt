@@ -6,11 +6,11 @@ use Rattle.std.specs.Cmp.{IsEquivalence}
 use Rattle.std.specs.List.{Any, Contains, dedup}
 use Rattle.std.specs.List.Sorted.{IsPermutation, IsSorted, IsStrictlySortedBy}
 use Rattle.std.specs.declared.cmp.Ordering.TheVariants.{Less}
+use Rattle.sg_base.proofs.Finite.{Contains-map, each_at, map-Contains}
 use Rattle.jv_diag.specs.Plain.{DiagOf, diag_of}
 use Rattle.jv_diag.specs.declared.diagnostic.Diag.{Diag}
 use Rattle.jv_diag.specs.contracts.diagnostic.DiagEq.TheImpl.Laws as test_laws
 use Rattle.sc_report.specs.Report.{AreSorted, IsRising, diag_cmp}
-use Rattle.sc_report.proofs.Members.{Contains-map, each_at, map-Contains}
 use Rattle.sc_report.proofs.Order.{code_cmp, code_cmp_is, code_ties, code_total, is_same, same_diag}
 
 rising_from_sorted : (ds : List Diag) → IsStrictlySortedBy code_cmp ds → IsRising (map diag_of ds)

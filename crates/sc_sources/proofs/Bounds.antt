@@ -7,6 +7,7 @@ use Rattle.std.proofs.lemmas.List.Elements.{All-nil, All-cons}
 use Rattle.std.proofs.lemmas.List.Sums.{sum_by-cons}
 use Rattle.std.proofs.lemmas.Slice.Eq.{bytes_eq-Decides}
 use Rattle.std.proofs.lemmas.Str.{length-le-encodes, encodes-chars}
+use Rattle.sg_base.proofs.Finite.{nothing_in}
 use Rattle.jv_lex.specs.Source.{Follows, nothing, gap, token, Tokenizes}
 use Rattle.jv_lex.specs.declared.token.Token.{Token}
 use Rattle.jv_lex.specs.declared.token.TokenKind.{TokenKind}
@@ -182,9 +183,6 @@ bounded {bytes} {old} (parsed {ts} {u} t is) =
     }
 
 -- ---- all sources
-
-nothing_in : {X : Type 0} (x : X) → Contains [] x → ⊥
-nothing_in x c = absurd (omega (arith, c.1))
 
 -- what sources leave: how many names, outcomes and trees, what the trees declare, and that their identifiers are names
 pub record Totals (old : List (List ℕ)) (sources : List (List ℕ)) (new : List (List ℕ)) (xs : List Outcome) : Type 0 where
