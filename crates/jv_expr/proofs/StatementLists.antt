@@ -73,6 +73,12 @@ module _ (reply : Query JavaPred → Option (Answer JavaDatum)) (site : SiteOf) 
         branches_step x below is ds' (subst (λ (us : List Local). Reads {U = List DiagOf} reply (condition_checked site us (expr_tree x.0) ds) (Ok ds')) same (subst (λ (a : Expr). Reads {U = List DiagOf} reply (condition_checked site us (expr_tree a) ds) (Ok ds')) left c))
         vs'' ds'' r (subst (λ (b : Stmt). Reads {U = Scoped} reply (checked site w (stmt_tree b) vs ds') (Ok (vs'', ds''))) right g) h
 
+    -- and where the condition stops
+    pub branches_halt : (x : Expr × Stmt) (us : List Local) (a : Expr) (e : Stop (Query JavaPred)) → i < length xs → x ≡ get_or xs i x → us ≡ vs → a ≡ x.0 → Reads {U = List DiagOf} reply (condition_checked site us (expr_tree a) ds) (Err e)
+        → Reads {U = Scoped} reply (branches_checked site w (branch_trees (drop i xs)) vs ds) (Err e)
+    branches_halt x us a e below is same left g =
+        condition_stop x below is e (subst (λ (us : List Local). Reads {U = List DiagOf} reply (condition_checked site us (expr_tree x.0) ds) (Err e)) same (subst (λ (a : Expr). Reads {U = List DiagOf} reply (condition_checked site us (expr_tree a) ds) (Err e)) left g))
+
     pub branches_end : (s : Scoped) → length xs ≤ i → ◌≡◌ {A = Scoped} (vs, ds) s → Reads reply (branches_checked site w (branch_trees (drop i xs)) vs ds) (Ok s)
     branches_end s past is = subst (λ (u : Rule Scoped). Reads reply u (Ok s)) (sym (at_drop_all (λ (xs : List (Expr × Stmt)). branches_checked site w (branch_trees xs) vs ds) xs i past)) (done_reads reply (vs, ds) s is)
 

@@ -104,11 +104,14 @@ ctor_body l names c extends blanks d s =
 
 -- ---- members
 
+-- the initializer of a field whose signature is known
+abbrev pub init_by : LayoutOf → List (List ℕ) → Scope → List (List Ident) → Scope → InitTree → Option SignatureOf → Rule (List DiagOf)
+init_by l names c extends m x s = init_typed (member_site l names c extends (member_instances l c m) [] None) [] (result_of s) x []
+
 -- the initializer of a field, where it has one
 abbrev pub field_rule : LayoutOf → List (List ℕ) → Scope → List (List Ident) → Scope → Option InitTree → Rule (List DiagOf)
 field_rule l names c extends m None = done []
-field_rule l names c extends m (Some x) =
-    and_then (signature_of l m) (λ s. init_typed (member_site l names c extends (member_instances l c m) [] None) [] (result_of s) x [])
+field_rule l names c extends m (Some x) = and_then (signature_of l m) (λ s. init_by l names c extends m x s)
 
 -- the body of a method; one without a body has nothing to check
 abbrev pub method_rule : LayoutOf → List (List ℕ) → Scope → List (List Ident) → Scope → MethodTree → Rule (List DiagOf)

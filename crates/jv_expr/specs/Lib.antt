@@ -8,6 +8,7 @@ pub mod Calls
 pub mod Typed
 pub mod Statements
 pub mod Branches
+pub mod StatementParts
 pub mod ParamTypes
 pub mod Bodies
 pub mod Locals

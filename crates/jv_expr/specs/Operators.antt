@@ -168,9 +168,13 @@ choice_type site c p =
     cond (is_bad p.0.ty || is_bad p.1.ty) (Some bad_type)
     (cond (is_bad c) (bad_for (conditional_type p.0 p.1 (object_scope site.layout))) (cond (is_type c boolean_type) (conditional_type p.0 p.1 (object_scope site.layout)) None))
 
+-- a conditional by what is known of its branches
+abbrev pub choice_by : SiteOf → ℕ → Ty → Ty → Ty → Sides → List DiagOf → Ty × List DiagOf
+choice_by site at c s t p ds = or_refused (choice_type site c p) site at 17 (choice_text site c s t) ds
+
 -- a conditional at an offset, by the types of its condition and of its branches
 unfoldable pub choice_on : SiteOf → ℕ → Ty → Ty → Ty → List DiagOf → Checking Ty
-choice_on site at c s t ds = and_then (sides site.layout s t) (λ p. done (or_refused (choice_type site c p) site at 17 (choice_text site c s t) ds))
+choice_on site at c s t ds = and_then (sides site.layout s t) (λ p. done (choice_by site at c s t p ds))
 
 -- ---- indexes (JLS 15.10.3)
 

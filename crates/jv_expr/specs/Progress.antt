@@ -1,21 +1,25 @@
 -- What is left of a body behind the statements at its top that were checked.
 use Rattle.std.specs.Prelude.{◌≡◌, ℕ, zero, suc, false, List, [], ◌∷◌, ◌++◌, Option, None, Some, Result, Ok, Err}
 use Rattle.sg_base.specs.declared.scope.Scope.{Scope}
+use Rattle.sg_query.specs.declared.answer.Answer.{Answer}
 use Rattle.sg_query.specs.declared.query.Query.{Query}
 use Rattle.sg_reading.specs.declared.stop.Stop.{Stop}
+use Rattle.sg_reading.specs.Progress.{HasResidual}
 use Rattle.sg_reading.specs.Reading.{done, and_then}
 use Rattle.jv_diag.specs.Plain.{DiagOf}
+use Rattle.jv_instance.specs.declared.datum.JavaDatum.{JavaDatum}
 use Rattle.jv_instance.specs.declared.pred.JavaPred.{JavaPred}
 use Rattle.jv_instance.specs.declared.ty.Ty.{Ty}
 use Rattle.jv_layout.specs.Folder.{LayoutOf}
 use Rattle.jv_tree.specs.declared.name.Ident.{Ident}
 use Rattle.jv_tree.specs.StmtTree.{StmtTree, StmtTrees, no_stmts, stmts}
-use Rattle.jv_tree.specs.DeclTree.{MethodTree, CtorTree}
+use Rattle.jv_tree.specs.DeclTree.{ParamTree, MethodTree, CtorTree}
 use Rattle.jv_names.specs.Instances.{instance_bodies}
-use Rattle.jv_names.specs.Replies.{Rule}
+use Rattle.jv_names.specs.Read.{SignatureOf}
+use Rattle.jv_names.specs.Replies.{Rule, reply_to}
 use Rattle.jv_expr.specs.declared.begun_body.BegunBody.{BegunBody}
 use Rattle.jv_expr.specs.declared.body_progress.BodyProgress.{BodyProgress}
-use Rattle.jv_expr.specs.Bodies.{ctor_rule, member_instances, member_site, optional_body, statements_checked}
+use Rattle.jv_expr.specs.Bodies.{body_by, ctor_rule, member_instances, member_site, method_rule, optional_body, statements_checked, statements_rule}
 use Rattle.jv_expr.specs.Site.{SiteOf}
 use Rattle.jv_expr.specs.Statements.{Scoped, checked}
 
@@ -53,6 +57,10 @@ begun_scope (Err e) = Err e
 abbrev pub method_statements_left : LayoutOf → List (List ℕ) → Scope → List (List Ident) → Scope → StmtTrees → BegunBody → Rule (List DiagOf)
 method_statements_left l names c extends m xs b = statements_left (member_site l names c extends (member_instances l c m) [] b.result) xs b
 
+-- a body of a method of which no statement was checked, by its parameters and its signature: all of its statements are left, whatever they are
+abbrev pub IsMethodBegun : LayoutOf → List (List ℕ) → Scope → List (List Ident) → Scope → List ParamTree → Option SignatureOf → BegunBody → Type 0
+IsMethodBegun l names c extends m ps s b = (xs : StmtTrees) → method_statements_left l names c extends m xs b ≡ body_by l names c extends m ps xs s
+
 -- what is left of a method with this body, or without one
 abbrev pub optional_left : LayoutOf → List (List ℕ) → Scope → List (List Ident) → Scope → MethodTree → Option StmtTrees → BodyProgress → Rule (List DiagOf)
 optional_left l names c extends m d None p = optional_body l names c extends m d None
@@ -69,3 +77,21 @@ ctor_statements_left l names c extends blanks d b = statements_left (member_site
 -- what is left of a constructor; its super call comes before its statements
 abbrev pub ctor_left : LayoutOf → List (List ℕ) → Scope → List (List Ident) → List Scope → Scope → CtorTree → BodyProgress → Rule (List DiagOf)
 ctor_left l names c extends blanks m d p = left_of (ctor_rule l names c extends blanks m d) (ctor_statements_left l names c extends blanks d) p.begun
+
+-- over these replies, the rule of what is left behind the one body goes on as what is left behind the other
+abbrev pub IsFurther : List (Query JavaPred × Answer JavaDatum) → (BegunBody → Rule (List DiagOf)) → BegunBody → BegunBody → Type 0
+IsFurther replies rest b c = HasResidual (reply_to replies) (rest b) (rest c)
+
+-- over these replies, the rule of the statements of a method goes on as what is left of it, where a body was begun
+abbrev pub IsBodySoFar : List (Query JavaPred × Answer JavaDatum) → LayoutOf → List (List ℕ) → Scope → List (List Ident) → Scope → List ParamTree → StmtTrees → Option BegunBody → Type 0
+IsBodySoFar replies l names c extends m ps xs o =
+    HasResidual (reply_to replies) (statements_rule l names c extends m ps xs) (left_of (statements_rule l names c extends m ps xs) (method_statements_left l names c extends m xs) o)
+
+-- and so the rule of a method
+abbrev pub IsMethodSoFar : List (Query JavaPred × Answer JavaDatum) → LayoutOf → List (List ℕ) → Scope → List (List Ident) → Scope → MethodTree → BodyProgress → Type 0
+IsMethodSoFar replies l names c extends m d p = HasResidual (reply_to replies) (method_rule l names c extends m d) (method_left l names c extends m d p)
+
+-- and that of a constructor, where a body was begun
+abbrev pub IsCtorSoFar : List (Query JavaPred × Answer JavaDatum) → LayoutOf → List (List ℕ) → Scope → List (List Ident) → List Scope → Scope → CtorTree → Option BegunBody → Type 0
+IsCtorSoFar replies l names c extends blanks m d o =
+    HasResidual (reply_to replies) (ctor_rule l names c extends blanks m d) (left_of (ctor_rule l names c extends blanks m d) (ctor_statements_left l names c extends blanks d) o)

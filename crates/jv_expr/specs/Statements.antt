@@ -4,6 +4,7 @@ use Rattle.sg_reading.specs.Reading.{done, and_then}
 use Rattle.jv_diag.specs.Plain.{DiagOf}
 use Rattle.jv_instance.specs.declared.ty.Ty.{Ty}
 use Rattle.jv_tree.specs.declared.name.Ident.{Ident}
+use Rattle.jv_tree.specs.TypeTree.{TypeTree}
 use Rattle.jv_tree.specs.ExprTree.{ExprTree, ExprTrees, no_exprs, exprs, InitTree}
 use Rattle.jv_tree.specs.StmtTree.{VarTree, StmtTree, stmt, block, empty, local, effect, if_else, while_loop, do_loop, for_loop, return, break, continue, StmtTrees, no_stmts, stmts, BranchTrees, no_branches, branches, ElseTree, no_else, otherwise}
 use Rattle.jv_names.specs.Replies.{Rule}
@@ -69,6 +70,10 @@ abbrev pub variables_checked : SiteOf → Bool → Ty → List VarTree → List 
 variables_checked site is_final t [] vs ds = done (vs, ds)
 variables_checked site is_final t (x ∷ xs) vs ds = and_then (variable_checked site is_final t x vs ds) (λ s. variables_checked site is_final t xs s.0 s.1)
 
+-- a declaration of local variables with its written type
+abbrev pub local_checked : SiteOf → Bool → TypeTree → List VarTree → List Local → List DiagOf → Rule Scoped
+local_checked site is_final t xs vs ds = and_then (written_at site t ds) (λ w. variables_checked site is_final w.0 xs vs w.1)
+
 -- ---- statements
 
 -- a statement outside a loop that asks for one (JLS 14.15, 14.16)
@@ -89,7 +94,7 @@ abbrev mutual
   pub checked : SiteOf → Bool → StmtTree → List Local → List DiagOf → Rule Scoped
   checked site loop (stmt at (block xs)) vs ds = left vs (all_checked site loop xs vs ds)
   checked site loop (stmt at empty) vs ds = done (vs, ds)
-  checked site loop (stmt at (local f t xs)) vs ds = and_then (written_at site t ds) (λ w. variables_checked site f w.0 xs vs w.1)
+  checked site loop (stmt at (local f t xs)) vs ds = local_checked site f t xs vs ds
   checked site loop (stmt at (effect x)) vs ds = keeping vs (effect_checked site vs x ds)
   checked site loop (stmt at (if_else xs e)) vs ds = and_then (branches_checked site loop xs vs ds) (λ s. else_checked site loop e s.0 s.1)
   checked site loop (stmt at (while_loop x s)) vs ds = and_then (condition_checked site vs x ds) (λ ds. checked site true s vs ds)

@@ -174,11 +174,15 @@ ended_value site i is (TypeName t false) ds = (bad_value, with_fault site i.at 4
 ended_value site i is (Package p) ds = (bad_value, with_fault site i.at 40 (written site.names (i ∷ is) ∷ []) ds)
 ended_value site i is Unknown ds = (bad_value, ds)
 
+-- a name of several parts as an expression
+abbrev pub long_name_value : SiteOf → List Local → Ident → List Ident → List DiagOf → Checking Value
+long_name_value site vs i is ds = and_then (denoted site vs i is ds) (λ d. done (ended_value site i is d.0 d.1))
+
 -- a name as an expression; none has no identifier
 abbrev pub name_value_of : SiteOf → List Local → List Ident → List DiagOf → Checking Value
 name_value_of site vs [] ds = done (bad_value, ds)
 name_value_of site vs (i ∷ []) ds = simple_name site vs i ds
-name_value_of site vs (i ∷ j ∷ js) ds = and_then (denoted site vs i (j ∷ js) ds) (λ d. done (ended_value site i (j ∷ js) d.0 d.1))
+name_value_of site vs (i ∷ j ∷ js) ds = long_name_value site vs i (j ∷ js) ds
 
 -- a name as the value of an expression
 unfoldable pub name_value : SiteOf → List Local → List Ident → List DiagOf → Checking Value

@@ -2,22 +2,19 @@
 
 ghost use Rattle.std.specs.Prelude.{◌≡◌, ◌<◌, ◌^◌, ◌∷◌, [], map, Some, None, IfOk, IfSome, OnOk};
 ghost use Rattle.std.specs.Option.{option_map};
-ghost use Rattle.sg_reading.specs.Progress.{HasResidual};
 ghost use Rattle.sg_reading.specs.Stop.{Reads};
 ghost use Rattle.jv_layout.specs.Readers.{file_of};
 ghost use Rattle.jv_tree.specs.DeclTree.{ctor_tree, method_tree, param_tree};
 ghost use Rattle.jv_tree.specs.ExprTree.{expr_trees, init_tree};
-ghost use Rattle.jv_tree.specs.StmtTree.{StmtTrees, stmt_trees, var_tree};
+ghost use Rattle.jv_tree.specs.StmtTree.{stmt_trees, var_tree};
 ghost use Rattle.jv_tree.specs.TypeTree.{ids_of};
 ghost use Rattle.jv_names.specs.Bodies.{member_bodies};
 ghost use Rattle.jv_names.specs.Instances.{instance_bodies};
 ghost use Rattle.jv_names.specs.Replies.{reply_to};
-ghost use Rattle.jv_expr.specs.Bodies.{body_by, ctor_call, ctor_rule, field_rule, member_instances, member_site, method_rule, params_declared, statements_rule, super_checked};
-ghost use Rattle.jv_expr.specs.Checking.{with_scope};
-ghost use Rattle.jv_expr.specs.Fields.{result_of};
-ghost use Rattle.jv_expr.specs.Progress.{begun_scope, ctor_left, ctor_statements_left, IsBegun, left_of, method_left, method_statements_left};
+ghost use Rattle.jv_expr.specs.Bodies.{ctor_call, ctor_rule, field_rule, init_by, member_instances, member_site, method_rule, params_declared, statements_rule, super_checked};
+ghost use Rattle.jv_expr.specs.Checking.{ReadsScope};
+ghost use Rattle.jv_expr.specs.Progress.{begun_scope, ctor_statements_left, IsBegun, IsBodySoFar, IsCtorSoFar, IsFurther, IsMethodBegun, IsMethodSoFar, method_statements_left};
 ghost use Rattle.jv_expr.specs.Sites.{site_of};
-ghost use Rattle.jv_expr.specs.Typed.{init_typed};
 
 use crate::begun_body::BegunBody;
 use crate::body_progress::BodyProgress;
@@ -105,9 +102,7 @@ fn read_init_by(
     init: &Init,
     s: &Option<ReadSignature>,
 ) -> Result<DiagList, Need>
-    ensures { Reads (reply_to o.now)
-        (init_typed (member_site l.now n.now ty (map ids_of extends.now) (member_instances l.now ty member) [] None) [] (result_of s.now) (init_tree init.now) [])
-        result }
+    ensures { Reads (reply_to o.now) (init_by l.now n.now ty (map ids_of extends.now) member (init_tree init.now) s.now) result }
 {
     let spot = Spot::of_body(alloc, l, ty)?;
     let instances = member_instances(alloc, l, ty, member)?;
@@ -189,7 +184,7 @@ fn begin_method(
     params: &[Param],
     s: &Option<ReadSignature>,
 ) -> Result<BegunBody, AllocError>
-    ensures { IfOk result (λ b. (xs : StmtTrees) → method_statements_left l.now n.now ty (map ids_of extends.now) member xs b ≡ body_by l.now n.now ty (map ids_of extends.now) member (map param_tree params.now) xs s.now) }
+    ensures { IfOk result (IsMethodBegun l.now n.now ty (map ids_of extends.now) member (map param_tree params.now) s.now) }
 {
     let spot = Spot::of_body(alloc, l, ty)?;
     let instances = member_instances(alloc, l, ty, member)?;
@@ -214,7 +209,7 @@ fn go_on_method(
 ) -> Result<DiagList, Need>
     requires { progress.old.begun ≡ None }
     ensures reads { Reads (reply_to o.now) (method_statements_left l.now n.now ty (map ids_of extends.now) member (stmt_trees ss.now) body) result }
-    ensures left { IfSome progress.new.begun (λ b. HasResidual (reply_to o.now) (method_statements_left l.now n.now ty (map ids_of extends.now) member (stmt_trees ss.now) body) (method_statements_left l.now n.now ty (map ids_of extends.now) member (stmt_trees ss.now) b)) }
+    ensures left { IfSome progress.new.begun (IsFurther o.now (method_statements_left l.now n.now ty (map ids_of extends.now) member (stmt_trees ss.now)) body) }
     ensures new { OnOk result (progress.new.begun ≡ None) }
 {
     let spot = Spot::of_body(alloc, l, ty)?;
@@ -248,7 +243,7 @@ fn start_method(
 ) -> Result<DiagList, Need>
     requires { progress.old.begun ≡ None }
     ensures reads { Reads (reply_to o.now) (statements_rule l.now n.now ty (map ids_of extends.now) member (map param_tree params.now) (stmt_trees ss.now)) result }
-    ensures left { IfSome progress.new.begun (λ b. HasResidual (reply_to o.now) (statements_rule l.now n.now ty (map ids_of extends.now) member (map param_tree params.now) (stmt_trees ss.now)) (method_statements_left l.now n.now ty (map ids_of extends.now) member (stmt_trees ss.now) b)) }
+    ensures left { IfSome progress.new.begun (λ b. IsBodySoFar o.now l.now n.now ty (map ids_of extends.now) member (map param_tree params.now) (stmt_trees ss.now) (Some b)) }
     ensures new { OnOk result (progress.new.begun ≡ None) }
 {
     let s = read_signature_of(alloc, l, o, member)?;
@@ -270,9 +265,9 @@ fn read_body(
     ss: &[Stmt],
     progress: &mut BodyProgress,
 ) -> Result<DiagList, Need>
-    requires { HasResidual (reply_to o.now) (statements_rule l.now n.now ty (map ids_of extends.now) member (map param_tree params.now) (stmt_trees ss.now)) (left_of (statements_rule l.now n.now ty (map ids_of extends.now) member (map param_tree params.now) (stmt_trees ss.now)) (method_statements_left l.now n.now ty (map ids_of extends.now) member (stmt_trees ss.now)) progress.old.begun) }
+    requires { IsBodySoFar o.now l.now n.now ty (map ids_of extends.now) member (map param_tree params.now) (stmt_trees ss.now) progress.old.begun }
     ensures reads { Reads (reply_to o.now) (statements_rule l.now n.now ty (map ids_of extends.now) member (map param_tree params.now) (stmt_trees ss.now)) result }
-    ensures left { HasResidual (reply_to o.now) (statements_rule l.now n.now ty (map ids_of extends.now) member (map param_tree params.now) (stmt_trees ss.now)) (left_of (statements_rule l.now n.now ty (map ids_of extends.now) member (map param_tree params.now) (stmt_trees ss.now)) (method_statements_left l.now n.now ty (map ids_of extends.now) member (stmt_trees ss.now)) progress.new.begun) }
+    ensures left { IsBodySoFar o.now l.now n.now ty (map ids_of extends.now) member (map param_tree params.now) (stmt_trees ss.now) progress.new.begun }
     ensures new { OnOk result (progress.new.begun ≡ None) }
 {
     match progress.take() {
@@ -296,9 +291,9 @@ pub fn read_method_body(
     method: &Method,
     progress: &mut BodyProgress,
 ) -> Result<DiagList, Need>
-    requires { HasResidual (reply_to o.now) (method_rule l.now n.now ty (map ids_of extends.now) member (method_tree method.now)) (method_left l.now n.now ty (map ids_of extends.now) member (method_tree method.now) progress.old) }
+    requires { IsMethodSoFar o.now l.now n.now ty (map ids_of extends.now) member (method_tree method.now) progress.old }
     ensures reads { Reads (reply_to o.now) (method_rule l.now n.now ty (map ids_of extends.now) member (method_tree method.now)) result }
-    ensures left { HasResidual (reply_to o.now) (method_rule l.now n.now ty (map ids_of extends.now) member (method_tree method.now)) (method_left l.now n.now ty (map ids_of extends.now) member (method_tree method.now) progress.new) }
+    ensures left { IsMethodSoFar o.now l.now n.now ty (map ids_of extends.now) member (method_tree method.now) progress.new }
     ensures new { OnOk result (progress.new.begun ≡ None) }
 {
     match &method.body {
@@ -332,7 +327,7 @@ fn check_super(
     ds: &mut DiagList,
 ) -> Result<(), Need>
     requires { site.now.spot.now.file < 2 ^ 31 }
-    ensures { Reads (reply_to o.now) (super_checked (site_of site.now) (option_map (λ x. (x.0, expr_trees x.1.items)) call.now) (locals.now, ds.old)) (with_scope result locals.now ds.new) }
+    ensures { ReadsScope o.now (super_checked (site_of site.now) (option_map (λ x. (x.0, expr_trees x.1.items)) call.now) (locals.now, ds.old)) result locals.now ds.new }
 {
     match call {
         None => Ok(()),
@@ -390,7 +385,7 @@ fn go_on_ctor(
 ) -> Result<DiagList, Need>
     requires { progress.old.begun ≡ None }
     ensures reads { Reads (reply_to o.now) (ctor_statements_left l.now n.now ty (map ids_of extends.now) blanks.now (ctor_tree ctor.now) body) result }
-    ensures left { IfSome progress.new.begun (λ b. HasResidual (reply_to o.now) (ctor_statements_left l.now n.now ty (map ids_of extends.now) blanks.now (ctor_tree ctor.now) body) (ctor_statements_left l.now n.now ty (map ids_of extends.now) blanks.now (ctor_tree ctor.now) b)) }
+    ensures left { IfSome progress.new.begun (IsFurther o.now (ctor_statements_left l.now n.now ty (map ids_of extends.now) blanks.now (ctor_tree ctor.now)) body) }
     ensures new { OnOk result (progress.new.begun ≡ None) }
 {
     let spot = Spot::of_body(alloc, l, ty)?;
@@ -415,7 +410,7 @@ fn start_ctor(
 ) -> Result<DiagList, Need>
     requires { progress.old.begun ≡ None }
     ensures reads { Reads (reply_to o.now) (ctor_rule l.now n.now ty (map ids_of extends.now) blanks.now member (ctor_tree ctor.now)) result }
-    ensures left { IfSome progress.new.begun (λ b. HasResidual (reply_to o.now) (ctor_rule l.now n.now ty (map ids_of extends.now) blanks.now member (ctor_tree ctor.now)) (ctor_statements_left l.now n.now ty (map ids_of extends.now) blanks.now (ctor_tree ctor.now) b)) }
+    ensures left { IfSome progress.new.begun (λ b. IsCtorSoFar o.now l.now n.now ty (map ids_of extends.now) blanks.now member (ctor_tree ctor.now) (Some b)) }
     ensures new { OnOk result (progress.new.begun ≡ None) }
 {
     let s = read_signature_of(alloc, l, o, member)?;
@@ -438,9 +433,9 @@ pub fn read_ctor_body(
     ctor: &Ctor,
     progress: &mut BodyProgress,
 ) -> Result<DiagList, Need>
-    requires { HasResidual (reply_to o.now) (ctor_rule l.now n.now ty (map ids_of extends.now) blanks.now member (ctor_tree ctor.now)) (ctor_left l.now n.now ty (map ids_of extends.now) blanks.now member (ctor_tree ctor.now) progress.old) }
+    requires { IsCtorSoFar o.now l.now n.now ty (map ids_of extends.now) blanks.now member (ctor_tree ctor.now) progress.old.begun }
     ensures reads { Reads (reply_to o.now) (ctor_rule l.now n.now ty (map ids_of extends.now) blanks.now member (ctor_tree ctor.now)) result }
-    ensures left { HasResidual (reply_to o.now) (ctor_rule l.now n.now ty (map ids_of extends.now) blanks.now member (ctor_tree ctor.now)) (ctor_left l.now n.now ty (map ids_of extends.now) blanks.now member (ctor_tree ctor.now) progress.new) }
+    ensures left { IsCtorSoFar o.now l.now n.now ty (map ids_of extends.now) blanks.now member (ctor_tree ctor.now) progress.new.begun }
     ensures new { OnOk result (progress.new.begun ≡ None) }
 {
     match progress.take() {

@@ -3,15 +3,14 @@
 ghost use Rattle.std.specs.Prelude.{◌≡◌, ◌<◌, ◌^◌, ◌&&◌, is_some, OnOk};
 ghost use Rattle.std.specs.Option.{option_map};
 ghost use Rattle.sg_reading.specs.Stop.{Reads};
-ghost use Rattle.sg_reading.specs.Reading.{and_then};
 ghost use Rattle.jv_tree.specs.ExprTree.{init_tree};
 ghost use Rattle.jv_tree.specs.StmtTree.{var_tree, var_trees};
 ghost use Rattle.jv_tree.specs.TypeTree.{type_tree};
 ghost use Rattle.jv_names.specs.Replies.{reply_to};
-ghost use Rattle.jv_expr.specs.Checking.{only_diags, with_diags, with_scope};
+ghost use Rattle.jv_expr.specs.Checking.{only_diags, ReadsScope, with_diags, with_scope};
 ghost use Rattle.jv_expr.specs.Locals.{AddsLocals};
 ghost use Rattle.jv_expr.specs.Sites.{site_of};
-ghost use Rattle.jv_expr.specs.Statements.{declared, optional_init, variable_checked, variables_checked};
+ghost use Rattle.jv_expr.specs.Statements.{declared, local_checked, optional_init, variable_checked, variables_checked};
 ghost use Rattle.jv_expr.specs.Typed.{written_at};
 
 use crate::expressions::check_init;
@@ -113,7 +112,7 @@ fn check_variables(
     ds: &mut DiagList,
 ) -> Result<(), Need>
     requires { site.now.spot.now.file < 2 ^ 31 }
-    ensures reads { Reads (reply_to o.now) (variables_checked (site_of site.now) is_final ty (var_trees vars.now.items) locals.old.items ds.old) (with_scope result locals.new.items ds.new) }
+    ensures reads { ReadsScope o.now (variables_checked (site_of site.now) is_final ty (var_trees vars.now.items) locals.old.items ds.old) result locals.new.items ds.new }
     ensures grows { AddsLocals locals.old.items locals.new.items }
 {
     for var in vars {
@@ -152,9 +151,7 @@ pub(crate) fn check_local(
     ds: &mut DiagList,
 ) -> Result<(), Need>
     requires { site.now.spot.now.file < 2 ^ 31 }
-    ensures reads { Reads (reply_to o.now)
-        (and_then (written_at (site_of site.now) (type_tree ty.now) ds.old) (λ w. variables_checked (site_of site.now) is_final w.0 (var_trees vars.now.items) locals.old.items w.1))
-        (with_scope result locals.new.items ds.new) }
+    ensures reads { ReadsScope o.now (local_checked (site_of site.now) is_final (type_tree ty.now) (var_trees vars.now.items) locals.old.items ds.old) result locals.new.items ds.new }
     ensures grows { AddsLocals locals.old.items locals.new.items }
 {
     let t = check_declared_type(alloc, site, o, ty, ds)?;

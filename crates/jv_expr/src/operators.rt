@@ -5,7 +5,7 @@ ghost use Rattle.std.specs.String.{string_bytes};
 ghost use Rattle.sg_reading.specs.Stop.{Reads};
 ghost use Rattle.jv_names.specs.Replies.{reply_to};
 ghost use Rattle.jv_expr.specs.Checking.{with_diags, only_diags};
-ghost use Rattle.jv_expr.specs.Operators.{assign_compound, assign_on, assign_plain, bad_for, binary_on, both_texts, cast_on, casted, choice_on, choice_text, choice_type, compound_result, element_type, index_on, is_open, may_be_instance, may_cast, operand_sides, operated, operator_of, operator_type, or_refused, signed, simply_assigned, stepped, unary_on, unless_faulty, with_cast, with_refused, with_sealed, with_target};
+ghost use Rattle.jv_expr.specs.Operators.{assign_compound, assign_on, assign_plain, bad_for, binary_on, both_texts, cast_on, casted, choice_by, choice_on, choice_text, choice_type, compound_result, element_type, index_on, is_open, may_be_instance, may_cast, operand_sides, operated, operator_of, operator_type, signed, simply_assigned, stepped, unary_on, unless_faulty, with_cast, with_refused, with_sealed, with_target};
 ghost use Rattle.jv_expr.specs.Site.{type_text};
 ghost use Rattle.jv_expr.specs.Sites.{site_of};
 
@@ -312,7 +312,7 @@ fn chosen(
     p: &Pair,
     ds: &mut DiagList,
 ) -> Result<Ty, AllocError>
-    ensures { IfOk result (λ t. (t, ds.new) ≡ or_refused (choice_type (site_of site.now) condition p.now) (site_of site.now) at 17 (choice_text (site_of site.now) condition left right) ds.old) }
+    ensures { IfOk result (λ t. (t, ds.new) ≡ choice_by (site_of site.now) at condition left right p.now ds.old) }
 {
     if let Some(found) = choice_type(site, condition, p) {
         return Ok(found);

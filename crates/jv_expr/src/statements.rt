@@ -1,17 +1,15 @@
 //! Statements.
 
-ghost use Rattle.std.specs.Prelude.{◌≡◌, ◌<◌, ◌^◌, true, length, OnOk};
-ghost use Rattle.std.specs.Option.{option_map};
+ghost use Rattle.std.specs.Prelude.{◌≡◌, ◌<◌, ◌^◌, length, OnOk};
 ghost use Rattle.sg_reading.specs.Stop.{Reads};
-ghost use Rattle.sg_reading.specs.Reading.{and_then};
-ghost use Rattle.jv_tree.specs.ExprTree.{expr_tree, expr_trees};
-ghost use Rattle.jv_tree.specs.StmtTree.{optional_else, stmt_kind_tree, stmt_tree, stmt_trees};
+ghost use Rattle.jv_tree.specs.StmtTree.{stmt_kind_tree, stmt_tree, stmt_trees};
 ghost use Rattle.jv_names.specs.Replies.{reply_to};
 ghost use Rattle.jv_expr.specs.Branches.{branches_of};
-ghost use Rattle.jv_expr.specs.Checking.{with_scope};
+ghost use Rattle.jv_expr.specs.Checking.{ReadsScope, with_scope};
 ghost use Rattle.jv_expr.specs.Locals.{AddsLocals};
 ghost use Rattle.jv_expr.specs.Sites.{site_of};
-ghost use Rattle.jv_expr.specs.Statements.{all_checked, branches_checked, checked, effects_checked, else_checked, in_loop, left, optional_condition};
+ghost use Rattle.jv_expr.specs.StatementParts.{else_of, rounds_checked};
+ghost use Rattle.jv_expr.specs.Statements.{all_checked, branches_checked, checked, else_checked, in_loop, left};
 
 use crate::conditions::{
     check_condition, check_effect, check_effects, check_optional_condition, check_returned,
@@ -124,7 +122,7 @@ fn check_block(
     ds: &mut DiagList,
 ) -> Result<(), Need>
     requires { site.now.spot.now.file < 2 ^ 31 }
-    ensures reads { Reads (reply_to o.now) (left locals.old.items (all_checked (site_of site.now) within (stmt_trees ss.now.items) locals.old.items ds.old)) (with_scope result locals.new.items ds.new) }
+    ensures reads { ReadsScope o.now (left locals.old.items (all_checked (site_of site.now) within (stmt_trees ss.now.items) locals.old.items ds.old)) result locals.new.items ds.new }
     ensures grows { AddsLocals locals.old.items locals.new.items }
 {
     let n = locals.len();
@@ -147,10 +145,7 @@ fn check_rounds(
     ds: &mut DiagList,
 ) -> Result<(), Need>
     requires { site.now.spot.now.file < 2 ^ 31 }
-    ensures reads { Reads (reply_to o.now)
-        (and_then (optional_condition (site_of site.now) locals.old.items (option_map expr_tree e.now) ds.old)
-        (λ ds. and_then (effects_checked (site_of site.now) locals.old.items (expr_trees updates.now.items) ds) (λ ds. checked (site_of site.now) true (stmt_tree body.now) locals.old.items ds)))
-        (with_scope result locals.new.items ds.new) }
+    ensures reads { ReadsScope o.now (rounds_checked (site_of site.now) e.now updates.now.items body.now locals.old.items ds.old) result locals.new.items ds.new }
     ensures grows { AddsLocals locals.old.items locals.new.items }
 {
     check_optional_condition(alloc, site, o, locals.as_slice(), e, ds)?;
@@ -171,7 +166,7 @@ fn check_branches(
     ds: &mut DiagList,
 ) -> Result<(), Need>
     requires { site.now.spot.now.file < 2 ^ 31 }
-    ensures reads { Reads (reply_to o.now) (branches_checked (site_of site.now) within (branches_of (stmt_kind_tree s.now.kind)) locals.old.items ds.old) (with_scope result locals.new.items ds.new) }
+    ensures reads { ReadsScope o.now (branches_checked (site_of site.now) within (branches_of (stmt_kind_tree s.now.kind)) locals.old.items ds.old) result locals.new.items ds.new }
     ensures grows { AddsLocals locals.old.items locals.new.items }
 {
     match &s.kind {
@@ -208,7 +203,7 @@ fn check_else(
     ds: &mut DiagList,
 ) -> Result<(), Need>
     requires { site.now.spot.now.file < 2 ^ 31 }
-    ensures reads { Reads (reply_to o.now) (else_checked (site_of site.now) within (optional_else (option_map (λ b. b.value) other.now)) locals.old.items ds.old) (with_scope result locals.new.items ds.new) }
+    ensures reads { ReadsScope o.now (else_checked (site_of site.now) within (else_of other.now) locals.old.items ds.old) result locals.new.items ds.new }
     ensures grows { AddsLocals locals.old.items locals.new.items }
 {
     match other {

@@ -7,7 +7,7 @@ ghost use Rattle.jv_tree.specs.StmtTree.{stmt_tree, stmt_trees};
 ghost use Rattle.jv_names.specs.Replies.{reply_to};
 ghost use Rattle.jv_expr.specs.Checking.{only_diags, with_scope};
 ghost use Rattle.jv_expr.specs.Locals.{AddsLocals};
-ghost use Rattle.jv_expr.specs.Progress.{statements_left, top_checked};
+ghost use Rattle.jv_expr.specs.Progress.{IsFurther, statements_left, top_checked};
 ghost use Rattle.jv_expr.specs.Sites.{site_of};
 
 use crate::begun_body::BegunBody;
@@ -102,7 +102,7 @@ pub(crate) fn go_on(
     requires file { site.now.spot.now.file < 2 ^ 31 }
     requires new { progress.old.begun ≡ None }
     ensures reads { Reads (reply_to o.now) (statements_left (site_of site.now) (stmt_trees ss.now) body) result }
-    ensures left { IfSome progress.new.begun (λ b. (b.result ≡ body.result) × HasResidual (reply_to o.now) (statements_left (site_of site.now) (stmt_trees ss.now) body) (statements_left (site_of site.now) (stmt_trees ss.now) b)) }
+    ensures left { IfSome progress.new.begun (λ b. (b.result ≡ body.result) × IsFurther o.now (statements_left (site_of site.now) (stmt_trees ss.now)) body b) }
     ensures new { OnOk result (progress.new.begun ≡ None) }
 {
     let mut body = body;

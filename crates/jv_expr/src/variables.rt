@@ -1,12 +1,12 @@
 //! Names as expressions, and in front of the dot of a call.
 
 ghost use Rattle.std.specs.Prelude.{◌≡◌, ◌∷◌, ◌<◌, ◌^◌, None};
-ghost use Rattle.sg_reading.specs.Reading.{done, and_then};
+ghost use Rattle.sg_reading.specs.Reading.{done};
 ghost use Rattle.sg_reading.specs.Stop.{Reads};
 ghost use Rattle.jv_names.specs.Replies.{reply_to};
 ghost use Rattle.jv_expr.specs.Checking.{with_diags};
 ghost use Rattle.jv_expr.specs.Sites.{site_of};
-ghost use Rattle.jv_expr.specs.Variables.{denoted, ended_front, ended_value, field_outward, last_of, latest, local_value, name_front, name_value, or_field, outward_value, simple_name};
+ghost use Rattle.jv_expr.specs.Variables.{ended_front, ended_value, field_outward, last_of, latest, local_value, long_name_value, name_front, name_front_of, name_value, or_field, outward_value, simple_name};
 
 use crate::denoted::Denoted;
 use crate::denoting::{add_written, check_denoted};
@@ -191,7 +191,7 @@ fn check_long_name(
 ) -> Result<Value, Need>
     requires file { site.now.spot.now.file < 2 ^ 31 }
     requires parts { ids.now ≡ first ∷ rest.now }
-    ensures { Reads (reply_to o.now) (and_then (denoted (site_of site.now) locals.now first rest.now ds.old) (λ d. done (ended_value (site_of site.now) first rest.now d.0 d.1))) (with_diags result ds.new) }
+    ensures { Reads (reply_to o.now) (long_name_value (site_of site.now) locals.now first rest.now ds.old) (with_diags result ds.new) }
 {
     let ended = check_denoted(alloc, site, o, locals, first, rest, ids, ds)?;
     check_ended_value(alloc, site, o, first, rest, ids, ended, ds)
@@ -259,7 +259,7 @@ fn check_parts_front(
 ) -> Result<Front, Need>
     requires file { site.now.spot.now.file < 2 ^ 31 }
     requires parts { ids.now ≡ first ∷ rest.now }
-    ensures { Reads (reply_to o.now) (and_then (denoted (site_of site.now) locals.now first rest.now ds.old) (λ d. done (ended_front (site_of site.now) first rest.now d.0 d.1))) (with_diags result ds.new) }
+    ensures { Reads (reply_to o.now) (name_front_of (site_of site.now) locals.now (first ∷ rest.now) ds.old) (with_diags result ds.new) }
 {
     let ended = check_denoted(alloc, site, o, locals, first, rest, ids, ds)?;
     check_ended_front(alloc, site, o, first, rest, ids, ended, ds)

@@ -1,5 +1,5 @@
 -- Headers that wait for one another.
-use Rattle.std.specs.Prelude.{◌≡◌, ℕ, ◌<◌, List, [], ◌∷◌, Bool, true, false, Option, None, Some, take, length, slice_index_or}
+use Rattle.std.specs.Prelude.{◌≡◌, ℕ, ◌<◌, List, [], ◌∷◌, ◌++◌, map, Bool, true, false, Option, None, Some, take, length, slice_index_or}
 use Rattle.std.specs.List.{Contains}
 use Rattle.std.specs.declared.cmp.Ordering.TheVariants.{Less}
 use Rattle.sg_base.specs.declared.scope.Scope.{Scope}
@@ -15,8 +15,11 @@ use Rattle.jv_instance.specs.declared.pred.JavaPred.{JavaPred}
 use Rattle.jv_layout.specs.Folder.{LayoutOf}
 use Rattle.jv_layout.specs.Readers.{file_of}
 use Rattle.jv_layout.specs.Titles.{title_of}
+use Rattle.jv_tree.specs.declared.declaration.TypeDecl.{TypeDecl}
 use Rattle.jv_tree.specs.declared.name.Ident.{Ident}
+use Rattle.jv_tree.specs.TypeTree.{ids_of}
 use Rattle.jv_names.specs.declared.reference.Reference.{Reference}
+use Rattle.jv_names.specs.Replies.{Rule}
 use Rattle.jv_names.specs.Written.{start_of}
 use Rattle.jv_header.specs.Header.{header_reference}
 
@@ -32,6 +35,18 @@ pub record IsOpenReference (R : Query JavaPred → Answer JavaDatum → Type 0) 
 -- by these answers all references of a list are read
 abbrev pub AreRead : (Query JavaPred → Answer JavaDatum → Type 0) → LayoutOf → Scope → List (List Ident) → Type 0
 AreRead R l c names = (found : List Reference) × (queries : List (Query JavaPred)) × Gives R (each (header_reference l c) names) found queries
+
+-- by these answers not all references of the two clauses of a header are read
+abbrev pub IsHeaderOpen : (Query JavaPred → Answer JavaDatum → Type 0) → LayoutOf → Scope → List (List Ident) → List (List Ident) → Type 0
+IsHeaderOpen R l c extends implements = AreRead R l c extends → AreRead R l c implements → ⊥
+
+-- by these answers a rule comes to some query that has none
+abbrev pub NeedsSome : {U : Type 0} → (Query JavaPred → Answer JavaDatum → Type 0) → Rule U → Type 0
+NeedsSome R r = (q : Query JavaPred) × Needs R r q
+
+-- the references in the header of a declaration of the code, in order
+abbrev pub references_of : TypeDecl → List (List Ident)
+references_of d = map ids_of d.extends.items ++ map ids_of d.implements.items
 
 -- the place of the first reference of a list that comes to a query without an answer; where there is no place, all are read
 abbrev pub IsFirstOpen : (Query JavaPred → Answer JavaDatum → Type 0) → LayoutOf → Scope → List (List Ident) → Option ℕ → Type 0

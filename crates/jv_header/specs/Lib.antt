@@ -9,3 +9,4 @@ pub mod ImportsProgress
 pub mod Bounds
 pub mod Law
 pub mod Progress
+pub mod Results

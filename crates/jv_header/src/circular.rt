@@ -1,17 +1,14 @@
 //! Headers that wait for one another.
 
 ghost use Rattle.std.specs.Prelude.{◌≡◌, ◌<◌, ◌++◌, ◌^◌, length, map, IfOk};
-ghost use Rattle.sg_query.specs.declared.query.Query.{Query};
-ghost use Rattle.sg_reading.specs.Reading.{Needs};
 ghost use Rattle.sg_reading.specs.Stop.{Replied};
 ghost use Rattle.jv_diag.specs.Plain.{diag_of};
-ghost use Rattle.jv_instance.specs.declared.pred.JavaPred.{JavaPred};
 ghost use Rattle.jv_layout.specs.Readers.{file_of};
 ghost use Rattle.jv_names.specs.Bodies.{header_bodies};
 ghost use Rattle.jv_names.specs.Replies.{reply_to};
 ghost use Rattle.jv_tree.specs.TypeTree.{ids_of};
 ghost use Rattle.jv_header.specs.Header.{header_rule};
-ghost use Rattle.jv_header.specs.Circular.{is_missing, AreRead, IsCircular, IsFirstOpen, IsLeast, IsOpenOrRead, IsOpenStart};
+ghost use Rattle.jv_header.specs.Circular.{is_missing, IsCircular, IsFirstOpen, IsHeaderOpen, IsLeast, IsOpenOrRead, IsOpenStart, NeedsSome, references_of};
 
 use jv_diag::{Diag, diag};
 use jv_instance::JavaPred;
@@ -79,7 +76,7 @@ fn open_start(
     decl: &TypeDecl,
     ty: Scope,
 ) -> Result<u32, AllocError>
-    requires waits { AreRead (Replied (reply_to o.now)) l.now ty (map ids_of decl.now.extends.items) → AreRead (Replied (reply_to o.now)) l.now ty (map ids_of decl.now.implements.items) → ⊥ }
+    requires waits { IsHeaderOpen (Replied (reply_to o.now)) l.now ty (map ids_of decl.now.extends.items) (map ids_of decl.now.implements.items) }
     ensures { IfOk result (IsOpenStart (Replied (reply_to o.now)) l.now ty (map ids_of decl.now.extends.items ++ map ids_of decl.now.implements.items)) }
 {
     let spot = Spot::of_header(alloc, l, ty)?;
@@ -118,9 +115,9 @@ pub fn circular_line(
     ty: Scope,
     needed: &[Scope],
 ) -> Result<Diag, AllocError>
-    requires waits { (q : Query JavaPred) × Needs (Replied (reply_to o.now)) (header_rule l.now names.now ty (map ids_of decl.now.extends.items) (map ids_of decl.now.implements.items)) q }
+    requires waits { NeedsSome (Replied (reply_to o.now)) (header_rule l.now names.now ty (map ids_of decl.now.extends.items) (map ids_of decl.now.implements.items)) }
     requires some { 0 < length needed.now }
-    ensures { IfOk result (λ d. IsCircular (Replied (reply_to o.now)) l.now names.now ty (map ids_of decl.now.extends.items ++ map ids_of decl.now.implements.items) needed.now (diag_of d)) }
+    ensures { IfOk result (λ d. IsCircular (Replied (reply_to o.now)) l.now names.now ty (references_of decl.now) needed.now (diag_of d)) }
 {
     let at = open_start(alloc, l, o, decl, ty)?;
     let own = l.title(alloc, names, ty)?;

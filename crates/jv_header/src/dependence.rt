@@ -1,13 +1,14 @@
 //! Types that depend on themselves.
 
-ghost use Rattle.std.specs.Prelude.{◌≡◌, ◌++◌, Some, None, IfOk, MatchResult};
+ghost use Rattle.std.specs.Prelude.{◌≡◌, ◌++◌, Some, IfOk, MatchResult};
 ghost use Rattle.sg_reading.specs.Stop.{Reads, IsKnown};
-ghost use Rattle.sg_reading.specs.declared.stop.Stop.TheVariants.{NoReply, OutOfMemory};
+ghost use Rattle.sg_reading.specs.declared.stop.Stop.TheVariants.{OutOfMemory};
 ghost use Rattle.jv_names.specs.declared.kinds.TheConstants.{SUPERS};
 ghost use Rattle.jv_names.specs.Replies.{reply_to, for_any};
 ghost use Rattle.jv_header.specs.Depends.{with_supertypes, dependence, dependence_diags, depends_rule};
 ghost use Rattle.jv_header.specs.RowProgress.{IsDependenceSoFar, IsRowSoFar};
 ghost use Rattle.jv_header.specs.Progress.{with_found};
+ghost use Rattle.jv_header.specs.Results.{LacksReply};
 
 use crate::begun_dependence::BegunDependence;
 use crate::dependence_progress::DependenceProgress;
@@ -47,7 +48,7 @@ fn with_supertypes(
 fn ask_supertypes(o: &Oracle, ty: Scope) -> Result<&Answer<JavaDatum>, Stop<Query<JavaPred>>>
     ensures { MatchResult result
         (λ answer. reply_to o.now (for_any SUPERS ty) ≡ Some answer.now)
-        (λ stop. (stop ≡ NoReply (for_any SUPERS ty)) × (reply_to o.now (for_any SUPERS ty) ≡ None)) }
+        (λ stop. LacksReply (reply_to o.now) (for_any SUPERS ty) stop) }
 {
     o.ask(for_any(kinds::SUPERS, ty))
 }

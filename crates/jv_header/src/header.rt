@@ -1,12 +1,12 @@
 //! The header of a type.
 
-ghost use Rattle.std.specs.Prelude.{◌≡◌, [], ◌∷◌, ◌++◌, map, IfOk, OnOk, MatchResult};
+ghost use Rattle.std.specs.Prelude.{◌≡◌, [], ◌∷◌, ◌++◌, map, IfOk, OnOk};
 ghost use Rattle.sg_reading.specs.Stop.{Reads, IsKnown};
-ghost use Rattle.sg_reading.specs.declared.stop.Stop.TheVariants.{OutOfMemory};
 ghost use Rattle.jv_tree.specs.TypeTree.{ids_of};
 ghost use Rattle.jv_names.specs.Replies.{reply_to};
 ghost use Rattle.jv_header.specs.Header.{one_of, found_types, or_object, supertypes, header_by, header_rule};
 ghost use Rattle.jv_header.specs.Progress.{IsHeaderSoFar};
+ghost use Rattle.jv_header.specs.Results.{GivesOrLacksMemory};
 
 use crate::clauses::{add_extends, add_interface_clause};
 use crate::header_progress::HeaderProgress;
@@ -73,9 +73,7 @@ fn header_by(
     extended: &[Reference],
     implemented: &[Reference],
 ) -> Result<Header, Stop<Query<JavaPred>>>
-    ensures { MatchResult result
-        (λ h. h ≡ header_by l.now names.now ty (map ids_of extends.now) (map ids_of implements.now) extended.now implemented.now)
-        (λ stop. stop ≡ OutOfMemory) }
+    ensures { GivesOrLacksMemory result (header_by l.now names.now ty (map ids_of extends.now) (map ids_of implements.now) extended.now implemented.now) }
 {
     let row = supertypes(alloc, l, ty, extended, implemented)?;
     let mut diags = DiagList::empty(alloc);

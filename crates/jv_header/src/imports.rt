@@ -16,6 +16,7 @@ ghost use Rattle.jv_header.specs.Clashes.{AreBrought, AreNamesOf, is_other};
 ghost use Rattle.jv_header.specs.Imports.{at_import, declares, is_own, import_reference, imports_from, imports_rule, no_imports, with_import, with_meaning, with_single};
 ghost use Rattle.jv_header.specs.ImportsProgress.{AreImportsSoFar};
 ghost use Rattle.jv_header.specs.Progress.{with_found};
+ghost use Rattle.jv_header.specs.Results.{GivesOrLacksMemory};
 
 use crate::clashes::{bring, is_own, is_taken, last_name, own_names};
 use crate::file_imports::FileImports;
@@ -368,9 +369,7 @@ fn found_imports(
     unit: &Unit,
     found: &[Reference],
 ) -> Result<FileImports, Stop<Query<JavaPred>>>
-    ensures { MatchResult result
-        (λ w. w ≡ imports_from l.now names.now file (map type_decl_tree unit.now.types.items) no_imports (map import_tree unit.now.imports.items) found.now)
-        (λ stop. stop ≡ OutOfMemory) }
+    ensures { GivesOrLacksMemory result (imports_from l.now names.now file (map type_decl_tree unit.now.types.items) no_imports (map import_tree unit.now.imports.items) found.now) }
 {
     Ok(imports_by(alloc, l, names, file, unit, found)?)
 }

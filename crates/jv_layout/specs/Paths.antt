@@ -1,9 +1,10 @@
 -- Packages as prefixes of the clauses of files, and where a thing stands in a rising list.
-use Rattle.std.specs.Prelude.{◌≡◌, ℕ, zero, suc, ◌<◌, ◌≤◌, List, [], length, take, Option, Some, Result, MatchResult, None}
+use Rattle.std.specs.Prelude.{◌≡◌, ℕ, zero, suc, ◌<◌, ◌≤◌, List, [], length, map, take, Option, Some, Result, MatchResult, None}
 use Rattle.std.specs.List.{slice_get, slice_index_or}
 use Rattle.std.specs.declared.cmp.Ordering.{Ordering}
 use Rattle.std.specs.declared.cmp.Ordering.TheVariants.{Less, Equal, Greater}
-use Rattle.jv_tree.specs.DeclTree.{UnitTree}
+use Rattle.jv_tree.specs.declared.declaration.Unit.{Unit as File}
+use Rattle.jv_tree.specs.DeclTree.{UnitTree, tree_of}
 use Rattle.jv_layout.specs.declared.packages.Prefix.{Prefix}
 use Rattle.jv_layout.specs.Folder.{clause_of}
 
@@ -18,6 +19,14 @@ clause_at units f = clause_of (slice_index_or units f no_unit)
 -- the package that a prefix names
 abbrev pub path_at : List UnitTree → Prefix → List ℕ
 path_at units p = take p.len (clause_at units p.file)
+
+-- the packages that prefixes of the clauses of files name
+abbrev pub prefix_paths : List File → List Prefix → List (List ℕ)
+prefix_paths files ps = map (path_at (map tree_of files)) ps
+
+-- the clauses of two files begin with the same names, so many
+abbrev pub BeginAlike : List UnitTree → ℕ → ℕ → ℕ → Type 0
+BeginAlike units f g n = take n (clause_at units f) ≡ take n (clause_at units g)
 
 -- a thing stands at a place of a list, or would stand there: what is before it is less, and else what is behind it is greater
 abbrev pub IsSearched : {X : Type 0} → (X → X → Ordering) → List X → X → Result ℕ ℕ → Type 0

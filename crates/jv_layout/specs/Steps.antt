@@ -2,10 +2,11 @@
 use Rattle.std.specs.Prelude.{◌≡◌, ℕ, ◌+◌, ◌==◌, ◌&&◌, Bool, List, [], ◌∷◌, ◌++◌, map, take, Option, Some}
 use Rattle.std.specs.List.{Contains, find}
 use Rattle.std.specs.Map.{lookup}
+use Rattle.jv_tree.specs.declared.declaration.Unit.{Unit as File}
 use Rattle.jv_tree.specs.DeclTree.{UnitTree}
 use Rattle.jv_layout.specs.declared.clauses.Step.{Step}
 use Rattle.jv_layout.specs.declared.packages.Prefix.{Prefix}
-use Rattle.jv_layout.specs.Paths.{clause_at, path_at}
+use Rattle.jv_layout.specs.Paths.{clause_at, path_at, prefix_paths}
 
 -- two steps are the same
 abbrev pub is_step : Step → Step → Bool
@@ -23,3 +24,7 @@ pub record AreSteps (units : List UnitTree) (found : Step → Option ℕ) (ps : 
 -- each test finds the same first thing in two lists
 pub record FindsSame {X : Type 0} (xs ys : List X) : Type 0 where
   pub each : (p : X → Bool) → find p xs ≡ find p ys
+
+-- each test finds the same first thing in packages as they are now as in those before with these behind them
+abbrev pub FindsAdded : List File → List Prefix → List Prefix → List (List ℕ) → Type 0
+FindsAdded files old new added = FindsSame (prefix_paths files new) (prefix_paths files old ++ added)

@@ -1,11 +1,11 @@
 //! The packages that clauses name, each once, in the order of the clauses.
 
-ghost use Rattle.std.specs.Prelude.{◌≡◌, ℕ, ◌+◌, ◌<◌, ◌^◌, Some, [], ◌∷◌, ◌++◌, length, map, take, IfOk, OnOk};
+ghost use Rattle.std.specs.Prelude.{◌≡◌, ℕ, ◌+◌, ◌<◌, ◌^◌, Some, [], ◌∷◌, length, map, take, IfOk, OnOk};
 ghost use Rattle.std.specs.List.{slice_get, slice_index_or, flat_map};
 ghost use Rattle.jv_tree.specs.DeclTree.{tree_of};
 ghost use Rattle.jv_layout.specs.Folder.{prefixes, clause_of};
-ghost use Rattle.jv_layout.specs.Paths.{clause_at, path_at, AreFirstFiles};
-ghost use Rattle.jv_layout.specs.Steps.{steps_in, AreSteps, FindsSame};
+ghost use Rattle.jv_layout.specs.Paths.{clause_at, path_at, BeginAlike, AreFirstFiles};
+ghost use Rattle.jv_layout.specs.Steps.{steps_in, AreSteps, FindsSame, FindsAdded};
 
 use crate::packages::{Prefix, clause};
 use jv_tree::{NameId, Unit};
@@ -52,8 +52,7 @@ fn first_naming(
     requires steps { AreSteps (map tree_of files.now) (steps_in found.old.entries) packages.old.items }
     ensures first { IfOk result (λ f. take (p.len + 1) (clause_at (map tree_of files.now) f) ≡ take (p.len + 1) (clause_at (map tree_of files.now) p.file)) }
     ensures steps { OnOk result (AreSteps (map tree_of files.now) (steps_in found.new.entries) packages.new.items) }
-    ensures packages { OnOk result (FindsSame (map (path_at (map tree_of files.now)) packages.new.items)
-        (map (path_at (map tree_of files.now)) packages.old.items ++ take (p.len + 1) (clause_at (map tree_of files.now) p.file) ∷ [])) }
+    ensures packages { OnOk result (FindsAdded files.now packages.old.items packages.new.items (take (p.len + 1) (clause_at (map tree_of files.now) p.file) ∷ [])) }
 {
     let step = Step {
         file: outer,
@@ -83,10 +82,9 @@ fn first_files(
     requires few { length (clause_at (map tree_of files.now) file) < 2 ^ 28 }
     requires steps { AreSteps (map tree_of files.now) (steps_in found.old.entries) packages.old.items }
     ensures firsts { IfOk result (λ v. (k h : ℕ) → slice_get v.items k ≡ Some h
-        → take (k + 1) (clause_at (map tree_of files.now) h) ≡ take (k + 1) (clause_at (map tree_of files.now) file)) }
+        → BeginAlike (map tree_of files.now) h file (k + 1)) }
     ensures steps { OnOk result (AreSteps (map tree_of files.now) (steps_in found.new.entries) packages.new.items) }
-    ensures packages { OnOk result (FindsSame (map (path_at (map tree_of files.now)) packages.new.items)
-        (map (path_at (map tree_of files.now)) packages.old.items ++ prefixes (clause_at (map tree_of files.now) file))) }
+    ensures packages { OnOk result (FindsAdded files.now packages.old.items packages.new.items (prefixes (clause_at (map tree_of files.now) file))) }
 {
     let count = clause(files, file).len() as u32;
     let mut firsts = Vec::new(alloc);

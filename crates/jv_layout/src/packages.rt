@@ -7,7 +7,7 @@ ghost use Rattle.sg_state.specs.Held.{put};
 ghost use Rattle.jv_tree.specs.DeclTree.{tree_of};
 ghost use Rattle.jv_layout.specs.Folder.{path_cmp, paths_of, package_row, file_row, numbers_of, place_among};
 ghost use Rattle.jv_layout.specs.declared.packages.Prefix.{Prefix as PrefixOf};
-ghost use Rattle.jv_layout.specs.Paths.{clause_at, path_at, IsSearched, AreFirstFiles};
+ghost use Rattle.jv_layout.specs.Paths.{clause_at, path_at, prefix_paths, IsSearched, AreFirstFiles};
 
 use crate::clauses::{Clauses, read_clauses};
 use crate::compare::compare;
@@ -141,8 +141,8 @@ fn add(
 ) -> Result<(), AllocError>
     requires firsts { AreFirstFiles (map tree_of files.now) (map (λ v. v.items) firsts.now) }
     requires rising { IsRising (path_cmp names.now) (map (path_at (map tree_of files.now)) paths.old.items) }
-    ensures put { OnOk result (map (path_at (map tree_of files.now)) paths.new.items
-        ≡ put (path_cmp names.now) (map (path_at (map tree_of files.now)) paths.old.items) (path_at (map tree_of files.now) p)) }
+    ensures put { OnOk result (prefix_paths files.now paths.new.items
+        ≡ put (path_cmp names.now) (prefix_paths files.now paths.old.items) (path_at (map tree_of files.now) p)) }
     ensures rising { OnOk result (IsRising (path_cmp names.now) (map (path_at (map tree_of files.now)) paths.new.items)) }
 {
     match place(names, files, firsts, paths, p) {
@@ -159,8 +159,8 @@ fn sorted(
     packages: Vec<Prefix>,
 ) -> Result<Vec<Prefix>, AllocError>
     requires { AreFirstFiles (map tree_of files.now) (map (λ v. v.items) firsts.now) }
-    ensures { IfOk result (λ v. fold (put (path_cmp names.now)) [] (map (path_at (map tree_of files.now)) v.items)
-        ≡ fold (put (path_cmp names.now)) [] (map (path_at (map tree_of files.now)) packages.items)) }
+    ensures { IfOk result (λ v. fold (put (path_cmp names.now)) [] (prefix_paths files.now v.items)
+        ≡ fold (put (path_cmp names.now)) [] (prefix_paths files.now packages.items)) }
 {
     let mut paths = packages;
     paths.sort_by(|a, b| compare(names, files, firsts, *a, *b))?;

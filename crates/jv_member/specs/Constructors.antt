@@ -32,11 +32,15 @@ can_call l c None = done true
 can_call l c (Some k) =
     and_then (signature_of l k) (λ s. cond (takes_some s) (done false) (member_accessible l (file_of l c) (member_bodies l c) k None))
 
+-- the diagnostics of a call that is not possible, or lacks its enclosing instance
+abbrev pub call_faults : LayoutOf → List (List ℕ) → Scope → ℕ → Scope → Bool → Bool → List DiagOf
+call_faults l names c at s called enclosed = fault_if (not called) (titled_diag l names c 38 at s) ++ fault_if (not enclosed) (titled_diag l names c 57 at s)
+
 -- the diagnostics of the call of the superclass's constructor at a place
 unfoldable pub call_diags : LayoutOf → List (List ℕ) → Scope → ℕ → Scope → Rule (List DiagOf)
 call_diags l names c at s =
     and_then (ctor_of l s) (λ k. and_then (can_call l c k) (λ called. and_then (has_enclosing l (instance_bodies l c) s (owner_scope l s)) (λ enclosed.
-    done (fault_if (not called) (titled_diag l names c 38 at s) ++ fault_if (not enclosed) (titled_diag l names c 57 at s)))))
+    done (call_faults l names c at s called enclosed))))
 
 -- the superclass where it is a class: under an interface nothing is checked
 abbrev pub only_class : LayoutOf → Scope → Option Scope

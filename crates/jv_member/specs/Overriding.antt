@@ -198,10 +198,13 @@ meeting l c ms = cond (declares_one l c ms || nat_lt (length ms) 2) (done []) (a
 abbrev pub is_unimplemented : LayoutOf → Scope → List Scope → Bool
 is_unimplemented l c ms = (not (is_interface_of l c) && not (is_abstract_of l c)) && list_all (is_abstract_of l) ms
 
+-- the diagnostics of the methods of one name, by what is wrong where they meet, all at the type's name
+abbrev pub group_diags : LayoutOf → List (List ℕ) → Scope → Ident → NameId → List Scope → List (Option ℕ) → List DiagOf
+group_diags l names c type n ms codes = code_diags l names c type n codes ++ fault_if (is_unimplemented l c ms) (named_diag l names c 35 type n)
+
 -- the diagnostics of the methods of one name, all at the type's name
 unfoldable pub group_rule : LayoutOf → List (List ℕ) → Scope → Ident → NameId × List Scope → Rule (List DiagOf)
-group_rule l names c type g =
-    and_then (meeting l c g.1) (λ codes. done (code_diags l names c type g.0 codes ++ fault_if (is_unimplemented l c g.1) (named_diag l names c 35 type g.0)))
+group_rule l names c type g = and_then (meeting l c g.1) (λ codes. done (group_diags l names c type g.0 g.1 codes))
 
 -- the diagnostics of all methods that a type has
 abbrev pub all_groups : LayoutOf → List (List ℕ) → Scope → Ident → Ends → Rule (List DiagOf)

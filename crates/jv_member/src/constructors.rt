@@ -1,6 +1,6 @@
 //! The constructor of the superclass that a constructor calls without a super call.
 
-ghost use Rattle.std.specs.Prelude.{◌≡◌, ◌++◌, Some, not, map, OnOk, MatchResult};
+ghost use Rattle.std.specs.Prelude.{◌≡◌, ◌++◌, Some, map, OnOk, MatchResult};
 ghost use Rattle.sg_reading.specs.Stop.{Reads};
 ghost use Rattle.sg_reading.specs.declared.stop.Stop.TheVariants.{OutOfMemory};
 ghost use Rattle.jv_diag.specs.Plain.{fault_if};
@@ -8,7 +8,7 @@ ghost use Rattle.jv_diag.specs.Text.{takes};
 ghost use Rattle.jv_tree.specs.TypeTree.{ids_of};
 ghost use Rattle.jv_names.specs.Replies.{reply_to};
 ghost use Rattle.jv_member.specs.MemberDecls.{own_of};
-ghost use Rattle.jv_member.specs.Constructors.{titled_diag, takes_some, can_call, call_diags, only_class, call_of, calls_at, call_at, ctor_rule};
+ghost use Rattle.jv_member.specs.Constructors.{titled_diag, takes_some, can_call, call_diags, call_faults, only_class, call_of, calls_at, call_at, ctor_rule};
 
 use crate::member_decl::MemberDecl;
 use jv_diag::DiagList;
@@ -57,9 +57,7 @@ fn call_faults(
     called: bool,
     enclosed: bool,
 ) -> Result<DiagList, Stop<Query<JavaPred>>>
-    ensures { MatchResult result
-        (λ diags. diags ≡ fault_if (not called) (titled_diag l.now names.now ty 38 at class) ++ fault_if (not enclosed) (titled_diag l.now names.now ty 57 at class))
-        (λ stop. stop ≡ OutOfMemory) }
+    ensures { MatchResult result (λ diags. diags ≡ call_faults l.now names.now ty at class called enclosed) (λ stop. stop ≡ OutOfMemory) }
 {
     let mut diags = DiagList::empty(alloc);
     add_titled(alloc, &mut diags, l, names, ty, 38, at, class, !called)?;

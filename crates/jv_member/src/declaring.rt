@@ -8,8 +8,8 @@ ghost use Rattle.jv_layout.specs.Readers.{file_of};
 ghost use Rattle.jv_tree.specs.DeclTree.{method_tree, ctor_tree};
 ghost use Rattle.jv_tree.specs.StmtTree.{var_tree};
 ghost use Rattle.jv_tree.specs.TypeTree.{base_tree, type_tree};
-ghost use Rattle.jv_member.specs.Own.{own_field, own_method, own_ctor};
-ghost use Rattle.jv_member.specs.MemberDecls.{own_of};
+ghost use Rattle.jv_member.specs.Own.{own_method, own_ctor};
+ghost use Rattle.jv_member.specs.MemberDecls.{own_field_of, own_of};
 ghost use Rattle.jv_member.specs.Declaration.{at_name, of_fields, of_methods, of_ctors, are_bad_words, is_string_text, is_plain_base, is_constant, has_bad_field_words, has_bad_method_words, has_wrong_body, member_diags};
 
 use crate::member_decl::MemberDecl;
@@ -171,7 +171,7 @@ fn field_diags(
     variable: &Var,
 ) -> Result<DiagList, AllocError>
     ensures { (s : Scope) → duplicate ≡ is_duplicate l.now s
-        → IfOk result (λ diags. diags ≡ member_diags l.now names.now ty class s (own_field mods.now.words.items (type_tree written.now) (var_tree variable.now))) }
+        → IfOk result (λ diags. diags ≡ member_diags l.now names.now ty class s (own_field_of mods.now written.now variable.now)) }
 {
     let name = variable.name;
     let bad = has_bad_field_words(l, names, ty, &mods.words, written, variable);

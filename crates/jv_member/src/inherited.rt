@@ -1,14 +1,13 @@
 //! The methods that a type has, name by name.
 
-ghost use Rattle.std.specs.Prelude.{◌≡◌, ◌++◌, MatchResult};
+ghost use Rattle.std.specs.Prelude.{◌≡◌, MatchResult};
 ghost use Rattle.std.specs.List.{list_all};
 ghost use Rattle.jv_layout.specs.Readers.{is_abstract_of};
 ghost use Rattle.sg_reading.specs.Reading.{each};
 ghost use Rattle.sg_reading.specs.Stop.{Reads};
 ghost use Rattle.sg_reading.specs.declared.stop.Stop.TheVariants.{OutOfMemory};
-ghost use Rattle.jv_diag.specs.Plain.{fault_if};
 ghost use Rattle.jv_names.specs.Replies.{reply_to};
-ghost use Rattle.jv_member.specs.Overriding.{named_diag, code_diags, is_unimplemented, group_rule, all_groups, inherited_rule};
+ghost use Rattle.jv_member.specs.Overriding.{is_unimplemented, group_diags, group_rule, all_groups, inherited_rule};
 
 use crate::above::{code_diags, named_diag};
 use crate::clash::Clash;
@@ -50,9 +49,7 @@ fn group_diags(
     methods: &[Scope],
     codes: &[Option<Clash>],
 ) -> Result<DiagList, Stop<Query<JavaPred>>>
-    ensures { MatchResult result
-        (λ diags. diags ≡ code_diags l.now names.now ty type_name name codes.now ++ fault_if (is_unimplemented l.now ty methods.now) (named_diag l.now names.now ty 35 type_name name))
-        (λ stop. stop ≡ OutOfMemory) }
+    ensures { MatchResult result (λ diags. diags ≡ group_diags l.now names.now ty type_name name methods.now codes.now) (λ stop. stop ≡ OutOfMemory) }
 {
     let mut diags = code_diags(alloc, l, names, ty, type_name, name, codes)?;
     if is_unimplemented(l, ty, methods) {

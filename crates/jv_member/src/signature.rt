@@ -4,11 +4,9 @@ ghost use Rattle.std.specs.Prelude.{◌≡◌, ◌<◌, ◌^◌, map, IfOk, Matc
 ghost use Rattle.sg_reading.specs.Stop.{Reads, IsKnown};
 ghost use Rattle.sg_reading.specs.declared.stop.Stop.TheVariants.{OutOfMemory};
 ghost use Rattle.jv_tree.specs.DeclTree.{param_tree, method_tree, ctor_tree};
-ghost use Rattle.jv_tree.specs.StmtTree.{var_tree};
-ghost use Rattle.jv_tree.specs.TypeTree.{type_tree};
 ghost use Rattle.jv_names.specs.Replies.{reply_to};
-ghost use Rattle.jv_member.specs.Own.{own_field, own_method, own_ctor};
-ghost use Rattle.jv_member.specs.MemberDecls.{own_of};
+ghost use Rattle.jv_member.specs.Own.{own_method, own_ctor};
+ghost use Rattle.jv_member.specs.MemberDecls.{own_field_of, own_of};
 ghost use Rattle.jv_member.specs.Signatures.{field_by, method_by, ctor_by, param_types, signature_at, signature_rule};
 
 use crate::member_decl::MemberDecl;
@@ -117,7 +115,7 @@ fn read_field(
     variable: &Var,
 ) -> Result<Signature, Stop<Query<JavaPred>>>
     requires { spot.now.file < 2 ^ 31 }
-    ensures { Reads (reply_to o.now) (signature_at l.now names.now spot.now.file spot.now.inside.items class (own_field mods.now.words.items (type_tree ty.now) (var_tree variable.now))) result }
+    ensures { Reads (reply_to o.now) (signature_at l.now names.now spot.now.file spot.now.inside.items class (own_field_of mods.now ty.now variable.now)) result }
 {
     let written = read_written_type(alloc, l, names, o, spot, ty)?;
     Ok(field_by(alloc, variable.name.id, written))

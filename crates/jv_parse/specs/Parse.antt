@@ -29,12 +29,16 @@ pub record HasNoTree (ts : List Terminal) : Type 0 where
   pub shallow : IsShallow ts
   pub none : (u : UnitTree) → Derives ts u → ⊥
 
+-- no tree derives from the terminals, and the one at this place is the first that is refused
+abbrev pub HasNoTreeAt : List Terminal → ℕ → Type 0
+HasNoTreeAt ts i = HasNoTree ts × IsRefusedAt ts i
+
 -- What a result says of the terminals, where memory did not run out. Where no tree derives, the tokens before the refused one begin a file, and
 -- with it they do not.
 abbrev pub Says : List Terminal → Result File ParseFault → Type 0
 Says ts (Ok u) = IsTreeOf ts (tree_of u)
 Says ts (Err (TooDeep i)) = IsFirstDeep ts i
-Says ts (Err (NotInGrammar i)) = HasNoTree ts × IsRefusedAt ts i
+Says ts (Err (NotInGrammar i)) = HasNoTreeAt ts i
 Says ts (Err OutOfMemory) = Unit {0}
 
 -- memory did not run out

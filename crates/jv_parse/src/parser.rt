@@ -6,10 +6,9 @@ ghost use Rattle.jv_tree.specs.DeclTree.{tree_of};
 ghost use Rattle.jv_tree.specs.Identifiers.{idents_unit};
 ghost use Rattle.jv_tree.specs.Numbered.{IsNumbered};
 ghost use Rattle.jv_grammar.specs.Load.{IsFirstDeep};
-ghost use Rattle.jv_grammar.specs.RefusedAt.{IsRefusedAt};
 ghost use Rattle.jv_parse.specs.declared.parse_fault.ParseFault.TheVariants.{TooDeep, NotInGrammar};
 ghost use Rattle.jv_parse.specs.Naming.{names_with};
-ghost use Rattle.jv_parse.specs.Parse.{terminals_of, IsTreeOf, HasNoTree, Says, IsAnswered, AddsNames};
+ghost use Rattle.jv_parse.specs.Parse.{terminals_of, IsTreeOf, HasNoTreeAt, Says, IsAnswered, AddsNames};
 
 use crate::declarations::files::file;
 use crate::naming::name_tokens;
@@ -58,7 +57,7 @@ pub fn parse(
     ensures too_deep { IsAnswered result → (i : ℕ) →
         (result ≡ Err (TooDeep i)) ↔ IsFirstDeep (terminals_of source.now names.new tokens.now) i }
     ensures not_in_grammar { IsAnswered result → (i : ℕ) →
-        (result ≡ Err (NotInGrammar i)) ↔ (HasNoTree (terminals_of source.now names.new tokens.now) × IsRefusedAt (terminals_of source.now names.new tokens.now) i) }
+        (result ≡ Err (NotInGrammar i)) ↔ HasNoTreeAt (terminals_of source.now names.new tokens.now) i }
     ensures count { IfOk result (λ u. idents_unit (tree_of u) ≤ length tokens.now) }
     ensures numbered { IfOk result (λ u. IsNumbered (length names.new) (tree_of u)) }
     ensures named { IsAnswered result → names.new ≡ names_with source.now names.old tokens.now }

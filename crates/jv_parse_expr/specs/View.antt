@@ -1,5 +1,5 @@
 -- What a function that reads terminals returns, against a reader: what it read, or how many terminals are left where one was refused.
-use Rattle.std.specs.Prelude.{◌≡◌, ◌&&◌, ◌+◌, ℕ, Bool, true, false, nat_eq, List, [], ◌∷◌, length, Option, Some, None, Result, Ok, Err, get_or, drop, if◌then◌else◌}
+use Rattle.std.specs.Prelude.{◌≡◌, ◌&&◌, ◌+◌, ◌<◌, ℕ, Bool, true, false, nat_eq, List, [], ◌∷◌, length, Option, Some, None, Result, Ok, Err, get_or, drop, if◌then◌else◌}
 use Rattle.std.specs.List.{list_any}
 use Rattle.std.specs.Borrow.{Bor}
 use Rattle.jv_tree.specs.declared.expression.Expr.{Expr}
@@ -7,7 +7,7 @@ use Rattle.jv_tree.specs.declared.expression.Operand.{Operand}
 use Rattle.jv_tree.specs.declared.name.Ident.{Ident as Identifier}
 use Rattle.jv_tree.specs.ExprTree as t
 use Rattle.jv_tree.specs.ExprTree.{ExprTree, KindTree, OperandTree, ExprTrees, InitTrees, LinkTrees, expr_tree, expr_trees, init_tree, init_trees, link_trees, operand_tree}
-use Rattle.jv_tree.specs.Shaped.{instance_of, levels}
+use Rattle.jv_tree.specs.Shaped.{instance_of, levels, postfix_operators}
 use Rattle.jv_grammar.specs.declared.terminal.Terminal.{Terminal}
 use Rattle.jv_grammar.specs.declared.form.Form.{Form}
 use Rattle.jv_grammar.specs.declared.form.Form.TheVariants.{Target}
@@ -17,7 +17,7 @@ use Rattle.jv_grammar.specs.TypeGrammar.{starts}
 use Rattle.jv_grammar.specs.ExprGrammar.{at_of}
 use Rattle.jv_grammar.specs.Reader.{Reads, ◌>>=◌, rest_of, closed}
 use Rattle.jv_grammar.specs.TypeReader.{reference_of}
-use Rattle.jv_grammar.specs.ExprReader.{Parsed, Below, done, member_of, is_mark_of}
+use Rattle.jv_grammar.specs.ExprReader.{Parsed, Below, done, member_of, is_mark_of, run_of}
 use Rattle.jv_parse_expr.specs.declared.fault.Fault.{Fault}
 use Rattle.jv_parse_expr.specs.declared.fault.Fault.TheVariants.{OutOfMemory, Refused}
 
@@ -49,6 +49,18 @@ past (Err e) = None
 abbrev pub Skips : {Y : Type 0} → Option (Bor (List Terminal)) → Result (Y × List Terminal) (List Terminal) → Type 0
 Skips None read = past read ≡ None
 Skips (Some r) read = past read ≡ Some r.now
+
+-- the terminals begin as is asked, and these are all of them but the first
+abbrev pub StandsBehind : Bool → List Terminal → List Terminal → Type 0
+StandsBehind begins xs ys = (begins ≡ true) × (ys ≡ rest_of xs) × (length xs ≡ length ys + 1)
+
+-- the run that the terminals start with is the identifier and the run of these, which are fewer
+abbrev pub StartsRun : List Terminal → Identifier → List Terminal → Type 0
+StartsRun xs i ys = (run_of xs ≡ (i ∷ (run_of ys).0, (run_of ys).1)) × (length ys < length xs)
+
+-- a `++` or `--` of the place and the number stands first, and these terminals behind it
+abbrev pub StartsStep : List Terminal → ℕ → ℕ → List Terminal → Type 0
+StartsStep xs p o ys = (xs ≡ Punct p o ∷ ys) × (list_any (nat_eq o) postfix_operators ≡ true) × (length ys < length xs)
 
 -- an identifier in front of a run of them
 abbrev pub headed : Identifier → List Identifier × List Terminal → Reads (List Identifier)

@@ -1,11 +1,11 @@
 //! The names and literals that expressions begin with.
 
-ghost use Rattle.std.specs.Prelude.{◌≡◌, ◌<◌, [], ◌∷◌, length, Ok, MatchOption};
+ghost use Rattle.std.specs.Prelude.{◌≡◌, [], Ok, MatchOption};
 ghost use Rattle.jv_tree.specs.TypeTree.{ids_of};
 ghost use Rattle.jv_tree.specs.ExprTree.{expr, expr_tree};
 ghost use Rattle.jv_grammar.specs.ExprGrammar.{literal_tree};
 ghost use Rattle.jv_grammar.specs.ExprReader.{run_of};
-ghost use Rattle.jv_parse_expr.specs.View.{Gives, headed};
+ghost use Rattle.jv_parse_expr.specs.View.{Gives, StartsRun, headed};
 
 use crate::fault::Fault;
 use crate::marks::{DOT, PAREN_OPEN};
@@ -18,7 +18,7 @@ use std::alloc::Global;
 #[tactic(auto, unfolding(jv_grammar::specs::ExprReader::run_of))]
 fn dotted(terminals: &[Terminal]) -> Option<(Ident, &[Terminal])>
     ensures { MatchOption result (run_of terminals.now ≡ ([], terminals.now))
-        (λ p. (run_of terminals.now ≡ (p.0 ∷ (run_of p.1.now).0, (run_of p.1.now).1)) × (length p.1.now < length terminals.now)) }
+        (λ p. StartsRun terminals.now p.0 p.1.now) }
 {
     match split(terminals) {
         Some((Terminal::Punct(_, DOT), after)) => match split(after) {

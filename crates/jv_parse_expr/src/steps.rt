@@ -1,13 +1,10 @@
 //! The `++` and `--` behind an expression (JLS 15.14.2, 15.14.3).
 
-ghost use Rattle.std.specs.Prelude.{◌≡◌, ◌<◌, ◌∷◌, true, length, Ok, nat_eq, MatchOption};
-ghost use Rattle.std.specs.List.{list_any};
-ghost use Rattle.jv_tree.specs.Shaped.{postfix_operators};
+ghost use Rattle.std.specs.Prelude.{◌≡◌, Ok, MatchOption};
 ghost use Rattle.jv_tree.specs.ExprTree.{ExprTree, expr_tree};
 ghost use Rattle.jv_grammar.specs.declared.form.Form.{Form as FormOf};
-ghost use Rattle.jv_grammar.specs.declared.terminal.Terminal.TheVariants.{Punct};
 ghost use Rattle.jv_grammar.specs.ExprReader.{steps_of};
-ghost use Rattle.jv_parse_expr.specs.View.{Gives, shown, stepped};
+ghost use Rattle.jv_parse_expr.specs.View.{Gives, StartsStep, shown, stepped};
 
 use crate::fault::Fault;
 use crate::nested::Read;
@@ -21,7 +18,7 @@ use std::alloc::Global;
 #[tactic(auto, unfolding(jv_grammar::specs::ExprReader::steps_of))]
 fn step(terminals: &[Terminal]) -> Option<(u32, u8, &[Terminal])>
     ensures { MatchOption result ((f : FormOf) (e : ExprTree) → steps_of f e terminals.now ≡ ((f, e), terminals.now))
-        (λ p. (terminals.now ≡ Punct p.0 p.1 ∷ p.2.now) × (list_any (nat_eq p.1) postfix_operators ≡ true) × (length p.2.now < length terminals.now)) }
+        (λ p. StartsStep terminals.now p.0 p.1 p.2.now) }
 {
     match split(terminals) {
         Some((Terminal::Punct(place, mark), after)) => {

@@ -1,11 +1,12 @@
 //! The first of a list of terminals, and what stands behind it.
 
-ghost use Rattle.std.specs.Prelude.{◌≡◌, ◌<◌, ◌+◌, [], ◌∷◌, Ok, Err, true, false, length, MatchOption};
+ghost use Rattle.std.specs.Prelude.{◌≡◌, ◌<◌, [], ◌∷◌, Ok, Err, false, MatchOption};
 ghost use Rattle.jv_grammar.specs.TypeGrammar.{starts, starts_word};
 ghost use Rattle.jv_grammar.specs.ExprGrammar.{begins_plain, goes_on};
 ghost use Rattle.jv_grammar.specs.Reader.{rest_of, starts_ident};
 ghost use Rattle.jv_grammar.specs.TypeReader.{starts_pair};
 ghost use Rattle.jv_grammar.specs.declared.terminal.Terminal.TheVariants.{Ident as IdentifierOf};
+ghost use Rattle.jv_parse_expr.specs.View.{StandsBehind};
 
 use crate::marks::{BRACKET_CLOSE, BRACKET_OPEN, PAREN_OPEN, WORD_NEW, WORD_SUPER, WORD_THIS};
 use jv_grammar::Terminal;
@@ -44,7 +45,7 @@ pub fn starts(mark: u8, terminals: &[Terminal]) -> bool
 /// The terminals behind the mark, where it stands first.
 pub fn behind(mark: u8, terminals: &[Terminal]) -> Option<&[Terminal]>
     ensures { MatchOption result (starts mark terminals.now ≡ false)
-        (λ r. (starts mark terminals.now ≡ true) × (r.now ≡ rest_of terminals.now) × (length terminals.now ≡ length r.now + 1)) }
+        (λ r. StandsBehind (starts mark terminals.now) terminals.now r.now) }
 {
     match split(terminals) {
         Some((Terminal::Punct(_, number), behind)) => {
@@ -67,7 +68,7 @@ pub fn starts_word(word: u8, terminals: &[Terminal]) -> bool
 /// The terminals behind the keyword, where it stands first.
 pub fn behind_word(word: u8, terminals: &[Terminal]) -> Option<&[Terminal]>
     ensures { MatchOption result (starts_word word terminals.now ≡ false)
-        (λ r. (starts_word word terminals.now ≡ true) × (r.now ≡ rest_of terminals.now) × (length terminals.now ≡ length r.now + 1)) }
+        (λ r. StandsBehind (starts_word word terminals.now) terminals.now r.now) }
 {
     match split(terminals) {
         Some((Terminal::Keyword(_, number), behind)) => {

@@ -1,7 +1,10 @@
 -- Declarations, without memory (JLS 7 to 9).
-use Rattle.std.specs.Prelude.{ℕ, Bool, List, [], ◌∷◌, Option, map}
+use Rattle.std.specs.Prelude.{ℕ, Bool, List, [], ◌∷◌, Option, Vec, map}
 use Rattle.std.specs.Option.{option_map}
+use Rattle.std.specs.declared.alloc.Global.{Global}
 use Rattle.jv_tree.specs.declared.name.Ident.{Ident}
+use Rattle.jv_tree.specs.declared.expression.Expr.{Expr}
+use Rattle.jv_tree.specs.declared.statement.Stmt.{Stmt}
 use Rattle.jv_tree.specs.declared.declaration.Import.{Import}
 use Rattle.jv_tree.specs.declared.declaration.Param.{Param}
 use Rattle.jv_tree.specs.declared.declaration.Method.{Method}
@@ -67,13 +70,21 @@ pub record UnitTree : Type 0 where
 abbrev pub param_tree : Param → ParamTree
 param_tree p = record { is_final = p.is_final; ty = type_tree p.ty; name = p.name }
 
+-- the pure trees of the statements of a method's body, where it has one
+abbrev pub body_trees : Option (Vec Stmt Global) → Option StmtTrees
+body_trees b = option_map (λ v. stmt_trees v.items) b
+
+-- where a constructor's `super` starts and the pure trees of its arguments, where it calls one
+abbrev pub call_tree : Option (ℕ × Vec Expr Global) → Option (ℕ × ExprTrees)
+call_tree c = option_map (λ x. (x.0, expr_trees x.1.items)) c
+
 -- the pure tree of a method
 abbrev pub method_tree : Method → MethodTree
-method_tree m = record { mods = m.mods.words.items; result = type_tree m.result; name = m.name; params = map param_tree m.params.items; body = option_map (λ b. stmt_trees b.items) m.body }
+method_tree m = record { mods = m.mods.words.items; result = type_tree m.result; name = m.name; params = map param_tree m.params.items; body = body_trees m.body }
 
 -- the pure tree of a constructor
 abbrev pub ctor_tree : Ctor → CtorTree
-ctor_tree c = record { mods = c.mods.words.items; name = c.name; params = map param_tree c.params.items; call = option_map (λ x. (x.0, expr_trees x.1.items)) c.call; body = stmt_trees c.body.items }
+ctor_tree c = record { mods = c.mods.words.items; name = c.name; params = map param_tree c.params.items; call = call_tree c.call; body = stmt_trees c.body.items }
 
 -- the pure tree of a member, and of its parts
 abbrev mutual

@@ -65,11 +65,15 @@ check_left w t blanks (body m) p = member_left w t blanks m p
 abbrev pub check_in : FolderOf → ℕ → ℕ → Check
 check_in w t place = slice_index_or (checks_of (members_of_type w.layout t)) place meeting
 
+-- over these replies the rule of a check of a type goes on as what is left of it
+abbrev pub IsCheckSoFar : Replies → FolderOf → ℕ → List Scope → Check → BodyProgress → Type 0
+IsCheckSoFar reply w t blanks k p = HasResidual reply (check_rule w t blanks k) (check_left w t blanks k p)
+
 -- over these replies the rule of a type goes on as that of its checks from a place on, behind the diagnostics so far, and the rule of the check there
 -- goes on as what is left of it
 pub record AreSoFar (reply : Replies) (w : FolderOf) (t : ℕ) (b : BegunChecks) : Type 0 where
   pub rest : HasResidual reply (whole_rule w t) (with_checks w t b.blanks b.diags (drop b.place (checks_of (members_of_type w.layout t))))
-  pub check : HasResidual reply (check_rule w t b.blanks (check_in w t b.place)) (check_left w t b.blanks (check_in w t b.place) b.body)
+  pub check : IsCheckSoFar reply w t b.blanks (check_in w t b.place) b.body
 
 -- what is left of a type whose header is known
 unfoldable pub head_left : FolderOf → ℕ → Header → Rule (List DiagOf)

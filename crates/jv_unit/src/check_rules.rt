@@ -11,7 +11,7 @@ ghost use Rattle.jv_names.specs.Replies.{reply_to};
 ghost use Rattle.jv_unit.specs.Checks.{checks_of};
 ghost use Rattle.jv_unit.specs.Kept.{folder_of, IsWhole};
 ghost use Rattle.jv_unit.specs.Plans.{all_checks, calling_rule, check_rule, declaration_part, declaration_rule, meeting_rule, overriding_rule};
-ghost use Rattle.jv_unit.specs.Progress.{AreSoFar, check_in, check_left, IsHeadSoFar, IsReadSoFar, IsSoFar, whole_rule};
+ghost use Rattle.jv_unit.specs.Progress.{AreSoFar, check_in, IsCheckSoFar, IsHeadSoFar, IsReadSoFar, IsSoFar, whole_rule};
 
 use crate::begun_checks::BegunChecks;
 use crate::begun_head::BegunHead;
@@ -173,9 +173,9 @@ fn read_check(
     requires whole { IsWhole w.now }
     requires within { t < length w.now.layout.types }
     requires place { place < length (checks_of (members_of_type w.now.layout t)) }
-    requires so_far { HasResidual (reply_to o.now) (check_rule (folder_of w.now) t blanks.now (check_in (folder_of w.now) t place)) (check_left (folder_of w.now) t blanks.now (check_in (folder_of w.now) t place) progress.old) }
+    requires so_far { IsCheckSoFar (reply_to o.now) (folder_of w.now) t blanks.now (check_in (folder_of w.now) t place) progress.old }
     ensures reads { Reads (reply_to o.now) (check_rule (folder_of w.now) t blanks.now (check_in (folder_of w.now) t place)) result }
-    ensures so_far { HasResidual (reply_to o.now) (check_rule (folder_of w.now) t blanks.now (check_in (folder_of w.now) t place)) (check_left (folder_of w.now) t blanks.now (check_in (folder_of w.now) t place) progress.new) }
+    ensures so_far { IsCheckSoFar (reply_to o.now) (folder_of w.now) t blanks.now (check_in (folder_of w.now) t place) progress.new }
 {
     let count = member_count(w, t);
     if place < count {

@@ -1,5 +1,6 @@
 -- What the words of a command line ask for.
 use Rattle.std.specs.Prelude.{◌≡◌, ◌≢◌, ◌≤◌, ℕ, List, [], ◌∷◌, ◌++◌, codes, decimal, Option, None, Some}
+use Rattle.sc_app.specs.declared.asked.Asked.{Asked}
 use Rattle.sc_app.specs.declared.command.Command.{Command}
 use Rattle.sc_app.specs.declared.command.Command.TheVariants.{Check, Answers, Graph, Gen}
 
@@ -23,6 +24,10 @@ IsCommandOf Check command operand = (command ≡ codes "check") × IsFolderName 
 IsCommandOf Answers command operand = (command ≡ codes "answers") × IsFolderName operand
 IsCommandOf Graph command operand = (command ≡ codes "graph") × IsFolderName operand
 IsCommandOf (Gen n) command operand = (command ≡ codes "gen") × IsCount 1000 operand n
+
+-- the words beside the option ask for this, and the option for so many workers
+abbrev pub AsksWith : Asked → List ℕ → List ℕ → List ℕ → Type 0
+AsksWith a command option operand = (n : ℕ) × (a.workers ≡ Some n) × IsCommandOf a.command command operand × IsWorkers option n
 
 -- the words ask for this, and for so many workers, where they say so: a command, at most one option, and an operand
 abbrev pub Asks : List (List ℕ) → Command → Option ℕ → Type 0

@@ -18,8 +18,11 @@ use Rattle.sc_report.specs.Report.{report_text}
 use Rattle.sc_app.specs.declared.command.Command.{Command}
 use Rattle.sc_app.specs.declared.command.Command.TheVariants.{Check, Answers, Graph, Gen}
 use Rattle.sc_app.specs.declared.outcome.Outcome.{Outcome}
+use Rattle.sc_app.specs.declared.ran.Ran.{Ran}
+use Rattle.sc_app.specs.declared.report.Report.{Report}
 use Rattle.sc_app.specs.declared.status.Status.{Status}
 use Rattle.sc_app.specs.declared.status.Status.TheVariants.{Clean, Found, Usage, ReadFault, WriteFault, Limit, OutOfMemory}
+use Rattle.sc_app.specs.Command.{Asks}
 use Rattle.sc_app.specs.FolderRun.{JavaCore, same_datum}
 use Rattle.sc_app.specs.Outcome.{IsOutcomeOf}
 use Rattle.sc_app.specs.Sourced.{AreSources}
@@ -36,10 +39,14 @@ outcome_text o = report_text (sources_of o.sources.items) (map diag_of o.diags.i
 abbrev pub listed_by : Folder → List FileOf → ListedOf
 listed_by w ss = record { layout = w.layout; names = w.names; files = ss }
 
+-- of an outcome, a folder and the core of the run of its checkers: a listing where all of them have ended, and else the report
+abbrev pub ShowsRun : (ListedOf → JavaCore → List ℕ → Type 0) → Outcome → Folder → JavaCore → List ℕ → Type 0
+ShowsRun L o w c bytes =
+    (IsPhase (run is_wanted same_datum c) Ended × L (listed_by w (sources_of o.sources.items)) c bytes) ⊎ (IsPhase (run is_wanted same_datum c) Stuck × (bytes ≡ outcome_text o))
+
 -- a listing where all checkers have ended, and else the report
 abbrev pub ShowsListing : (ListedOf → JavaCore → List ℕ → Type 0) → Outcome → Option (Arc Folder Global) → Option JavaCore → List ℕ → Type 0
-ShowsListing L o (Some w) (Some c) bytes =
-    (IsPhase (run is_wanted same_datum c) Ended × L (listed_by (arc_value w) (sources_of o.sources.items)) c bytes) ⊎ (IsPhase (run is_wanted same_datum c) Stuck × (bytes ≡ outcome_text o))
+ShowsListing L o (Some w) (Some c) bytes = ShowsRun L o (arc_value w) c bytes
 ShowsListing L o None c bytes = bytes ≡ outcome_text o
 ShowsListing L o (Some w) None bytes = bytes ≡ outcome_text o
 
@@ -80,3 +87,13 @@ IsBesideIn c files (Some o) bytes status = (ss : List FileOf) × IfSome files (�
 abbrev pub HandsBack : Command → Option (List FileOf) → Option Outcome → Status → Option (List ℕ) → Option (List ℕ) → Type 0
 HandsBack c files None status before after = IsNoReport status
 HandsBack c files (Some o) status before after = (bytes : List ℕ) × IsBesideIn c files (Some o) bytes status × AddsAll before bytes after
+
+-- a run hands an outcome back so for each command that the words ask for
+abbrev pub HandsBackAsked : List (List ℕ) → Option (List FileOf) → Ran → Option (List ℕ) → Option (List ℕ) → Type 0
+HandsBackAsked words files ran before after =
+    (c : Command) (workers : Option ℕ) → Asks words c workers → HandsBack c files ran.outcome ran.status before after
+
+-- and so it does where a report was put, for each command and folder of which the report's outcome stands beside its bytes
+abbrev pub HandsBackReport : Report → Ran → Option (List ℕ) → Option (List ℕ) → Type 0
+HandsBackReport report ran before after =
+    (c : Command) (files : Option (List FileOf)) → IsBesideIn c files report.outcome report.bytes.items report.status → HandsBack c files ran.outcome ran.status before after

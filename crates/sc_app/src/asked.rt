@@ -1,6 +1,6 @@
-ghost use Rattle.std.specs.Prelude.{◌≡◌, ◌≤◌, ◌↔◌, ℕ, IsTrue, MatchOption, None, Some, decimal, map};
+ghost use Rattle.std.specs.Prelude.{◌≡◌, ◌≤◌, ◌↔◌, ℕ, IsTrue, MatchOption, None, decimal, map};
 ghost use Rattle.sc_app.specs.declared.command.Command.{Command as CommandOf};
-ghost use Rattle.sc_app.specs.Command.{Asks, IsCommand, IsCommandOf, IsCount, IsFolderName, IsWorkers};
+ghost use Rattle.sc_app.specs.Command.{Asks, AsksWith, IsCommand, IsCommandOf, IsCount, IsFolderName, IsWorkers};
 
 use crate::command::Command;
 use itoa::Buffer;
@@ -47,7 +47,7 @@ fn plain(command: &[u8], operand: &[u8]) -> Option<Asked>
 /// What a command with an option asks for.
 fn with_option(command: &[u8], option: &[u8], operand: &[u8]) -> Option<Asked>
     ensures { MatchOption result ((c : CommandOf) (n : ℕ) → IsCommandOf c command.now operand.now → IsWorkers option.now n → ⊥)
-        (λ a. (n : ℕ) × (a.workers ≡ Some n) × IsCommandOf a.command command.now operand.now × IsWorkers option.now n) }
+        (λ a. AsksWith a command.now option.now operand.now) }
 {
     let command = command_of(command, operand)?;
     match workers_of(option) {

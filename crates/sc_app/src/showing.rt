@@ -5,7 +5,7 @@ ghost use Rattle.jv_instance.specs.Data.{is_wanted};
 ghost use Rattle.sc_app.specs.FolderLaw.{last_graph};
 ghost use Rattle.sc_app.specs.FolderRun.{same_datum};
 ghost use Rattle.sc_app.specs.Outcome.{IsOutcomeOf};
-ghost use Rattle.sc_app.specs.Ran.{Shows, listed_by, outcome_text};
+ghost use Rattle.sc_app.specs.Ran.{Shows, ShowsRun, listed_by, outcome_text};
 ghost use Rattle.sc_io.specs.SourceFile.{sources_of};
 ghost use Rattle.sc_listing.specs.Answers.{IsAnswersText};
 ghost use Rattle.sc_listing.specs.Graph.{graph_text};
@@ -75,8 +75,7 @@ fn graph_of(
 ) -> Result<Vec<u8>, AllocError>
     requires within { AreWithinLimits (sources_of outcome.now.sources.items) }
     requires over { IsPhase (run is_wanted same_datum core.now) Ended ⊎ IsPhase (run is_wanted same_datum core.now) Stuck }
-    ensures { IfOk result (λ v. (IsPhase (run is_wanted same_datum core.now) Ended × (v.items ≡ graph_text (listed_by folder.now (sources_of outcome.now.sources.items)) (last_graph core.now)))
-        ⊎ (IsPhase (run is_wanted same_datum core.now) Stuck × (v.items ≡ outcome_text outcome.now))) }
+    ensures { IfOk result (λ v. ShowsRun (λ l c text. text ≡ graph_text l (last_graph c)) outcome.now folder.now core.now v.items) }
 {
     match core.phase() {
         Phase::Ended => {
@@ -112,8 +111,7 @@ fn answers_of(
 ) -> Result<Vec<u8>, AllocError>
     requires within { AreWithinLimits (sources_of outcome.now.sources.items) }
     requires over { IsPhase (run is_wanted same_datum core.now) Ended ⊎ IsPhase (run is_wanted same_datum core.now) Stuck }
-    ensures { IfOk result (λ v. (IsPhase (run is_wanted same_datum core.now) Ended × IsAnswersText (listed_by folder.now (sources_of outcome.now.sources.items)) core.now.log v.items)
-        ⊎ (IsPhase (run is_wanted same_datum core.now) Stuck × (v.items ≡ outcome_text outcome.now))) }
+    ensures { IfOk result (λ v. ShowsRun (λ l c text. IsAnswersText l c.log text) outcome.now folder.now core.now v.items) }
 {
     match core.phase() {
         Phase::Ended => answers_text(alloc, &listed(folder, outcome), core.log()),

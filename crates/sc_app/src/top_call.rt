@@ -1,14 +1,12 @@
-ghost use Rattle.std.specs.Prelude.{◌≡◌, ◌≤◌, ◌⊎◌, ℕ, codes, IfSome, List, None, Option, map};
-ghost use Rattle.sc_app.specs.declared.status.Which.{Which};
-ghost use Rattle.sc_app.specs.Causes.{Completes, WritesLimit};
+ghost use Rattle.std.specs.Prelude.{◌≡◌, ◌≤◌, ◌⊎◌, ℕ, codes, IfSome, None, Option, map};
+ghost use Rattle.sc_app.specs.Causes.{EndsUnlessFailed, TellsLimits};
 ghost use Rattle.sc_app.specs.declared.command.Command.{Command as CommandOf};
 ghost use Rattle.sc_app.specs.Command.{Asks, IsCommand};
 ghost use Rattle.sc_app.specs.Lines.{line};
-ghost use Rattle.sc_app.specs.Ran.{HandsBack, IsBesideIn, IsNoReport};
+ghost use Rattle.sc_app.specs.Ran.{HandsBackAsked, HandsBackReport, IsNoReport};
 ghost use Rattle.sc_app.specs.Told.{IsPut, IsRefusal, Writes};
 ghost use Rattle.sc_io.specs.Faults.{HasRisen};
 ghost use Rattle.sc_io.specs.Sink.{AddsAll};
-ghost use Rattle.sc_io.specs.SourceTree.{FileOf};
 
 use crate::asked::asked_of;
 use crate::check::check;
@@ -46,12 +44,11 @@ pub fn run<R: Threads + Wait + Sync, T: SourceTree, S: Sink>(
     ensures write_fault { result ≡ Status.WriteFault → HasRisen (S.faults out.old) (S.faults out.new) }
 
     // A limit is told only where the sources of the command pass it, and its whole line is written.
-    ensures limit { (which : Which) → result ≡ Status.Limit which
-        → IfSome (T.files tree.old) (λ fs. WritesLimit (map (λ w. w.now) words.now) which fs (S.written out.old) (S.written out.new)) }
+    ensures limit { TellsLimits (map (λ w. w.now) words.now) (T.files tree.old) result (S.written out.old) (S.written out.new) }
 
     // Where the words are a command and no call failed, only want of memory keeps the report from its end.
-    ensures complete { IsCommand (map (λ w. w.now) words.now) → (HasRisen (T.faults tree.old) (T.faults tree.new) → ⊥)
-        → (HasRisen (S.faults out.old) (S.faults out.new) → ⊥) → Completes (map (λ w. w.now) words.now) (T.files tree.old) result }
+    ensures complete { EndsUnlessFailed (map (λ w. w.now) words.now) (T.files tree.old) result (T.faults tree.old) (T.faults tree.new) (S.faults out.old)
+        (S.faults out.new) }
 
     ensures files { T.files tree.new ≡ T.files tree.old }
 {
@@ -99,16 +96,14 @@ pub fn run_gated<R: Threads + Wait + Sync, T: SourceTree, S: Sink, G: Gate>(
     ensures write_fault { result.status ≡ Status.WriteFault → HasRisen (S.faults out.old) (S.faults out.new) }
 
     // A limit is told only where the sources of the command pass it, and its whole line is written.
-    ensures limit { (which : Which) → result.status ≡ Status.Limit which
-        → IfSome (T.files tree.old) (λ fs. WritesLimit (map (λ w. w.now) words.now) which fs (S.written out.old) (S.written out.new)) }
+    ensures limit { TellsLimits (map (λ w. w.now) words.now) (T.files tree.old) result.status (S.written out.old) (S.written out.new) }
 
     // Where the words are a command and no call failed, only want of memory keeps the report from its end.
-    ensures complete { IsCommand (map (λ w. w.now) words.now) → (HasRisen (T.faults tree.old) (T.faults tree.new) → ⊥)
-        → (HasRisen (S.faults out.old) (S.faults out.new) → ⊥) → Completes (map (λ w. w.now) words.now) (T.files tree.old) result.status }
+    ensures complete { EndsUnlessFailed (map (λ w. w.now) words.now) (T.files tree.old) result.status (T.faults tree.old) (T.faults tree.new) (S.faults out.old)
+        (S.faults out.new) }
 
     // Where all was written that the command shows of an outcome, that is handed back; and none is where the words are no command.
-    ensures outcome { (c : CommandOf) (workers : Option ℕ) → Asks (map (λ w. w.now) words.now) c workers
-        → HandsBack c (T.files tree.old) result.outcome result.status (S.written out.old) (S.written out.new) }
+    ensures outcome { HandsBackAsked (map (λ w. w.now) words.now) (T.files tree.old) result (S.written out.old) (S.written out.new) }
     ensures no_outcome { (IsCommand (map (λ w. w.now) words.now) → ⊥) → result.outcome ≡ None }
 
     ensures files { T.files tree.new ≡ T.files tree.old }
@@ -137,8 +132,7 @@ fn ended(status: Status) -> Ran
 fn put_report<S: Sink>(out: &mut S, report: Report) -> Ran
     ensures put { IsPut report.status report.bytes.items (S.written out.old) (S.written out.new) result.status }
     ensures failed { result.status ≡ Status.WriteFault → (report.status ≡ Status.WriteFault) ⊎ HasRisen (S.faults out.old) (S.faults out.new) }
-    ensures outcome { (c : CommandOf) (files : Option (List FileOf)) → IsBesideIn c files report.outcome report.bytes.items report.status
-        → HandsBack c files result.outcome result.status (S.written out.old) (S.written out.new) }
+    ensures outcome { HandsBackReport report result (S.written out.old) (S.written out.new) }
 {
     let Report {
         bytes,

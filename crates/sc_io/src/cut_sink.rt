@@ -1,5 +1,5 @@
 ghost use Rattle.std.specs.Prelude.{◌≡◌, ◌≤◌, ℕ, [], ◌++◌, take, Err, OnOk, OnErr, None, Some};
-ghost use Rattle.sc_io.specs.CutSink.{cut_at};
+ghost use Rattle.sc_io.specs.CutSink.{cut_at, cut_with};
 ghost use Rattle.sc_io.specs.Faults.{HasRisen, risen};
 ghost use Rattle.sc_io.specs.Sink.{AddsFront};
 
@@ -62,11 +62,7 @@ impl Sink for CutSink {
         ensures all { OnOk result ((cut_at self.old.cuts self.old.puts ≡ None)
             × (self.new ≡ record self.old { written = self.old.written ++ piece.now; puts = risen self.old.puts })) }
         ensures cut { result ≡ Err SinkFault.Failed → (most : ℕ) × (cut_at self.old.cuts self.old.puts ≡ Some most)
-            × (self.new ≡ record self.old {
-              written = self.old.written ++ take most piece.now;
-              puts = risen self.old.puts;
-              faults = risen self.old.faults;
-            }) }
+            × (self.new ≡ cut_with self.old (take most piece.now)) }
         ensures unchanged { result ≡ Err SinkFault.OutOfMemory → self.new ≡ self.old }
         ensures front { OnErr result
             (AddsFront (Some self.old.written) piece.now (Some self.new.written)) }

@@ -1,6 +1,6 @@
 ghost use Rattle.std.specs.Prelude.{◌≡◌, ◌≤◌, [], ◌++◌, Err, OnOk, OnErr, Some};
-ghost use Rattle.sc_io.specs.Faults.{HasRisen, risen};
-ghost use Rattle.sc_io.specs.MemSink.{Fits, front_within, piece_within};
+ghost use Rattle.sc_io.specs.Faults.{HasRisen};
+ghost use Rattle.sc_io.specs.MemSink.{Fits, filled_with, piece_within};
 ghost use Rattle.sc_io.specs.Sink.{AddsFront};
 
 use crate::fault::SinkFault;
@@ -62,10 +62,7 @@ impl Sink for MemSink {
             × (self.new ≡ record self.old { written = self.old.written ++ piece.now })) }
         ensures full { result ≡ Err SinkFault.Failed →
             (¬ Fits self.old.room (self.old.written ++ piece.now))
-            × (self.new ≡ record self.old {
-              written = front_within self.old.room (self.old.written ++ piece.now);
-              faults = risen self.old.faults;
-            }) }
+            × (self.new ≡ filled_with self.old piece.now) }
         ensures unchanged { result ≡ Err SinkFault.OutOfMemory → self.new ≡ self.old }
         ensures front { OnErr result
             (AddsFront (Some self.old.written) piece.now (Some self.new.written)) }

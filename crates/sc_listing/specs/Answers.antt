@@ -52,6 +52,14 @@ AreUnitTexts w mine [] text = text ≡ []
 AreUnitTexts w mine (s ∷ ss) text =
     (lines : List (List ℕ)) × (rest : List ℕ) × AreAnswerLines w (mine (unit_of w.layout s)) lines × AreUnitTexts w mine ss rest × (text ≡ unit_text (title w s) lines ++ rest)
 
+-- behind a text stands that of the unit which checks a file or a type, by the unit's entries
+abbrev pub AddsUnit : ListedOf → Scope → List JavaEntry → List ℕ → List ℕ → Type 0
+AddsUnit w s mine before after = (lines : List (List ℕ)) × AreAnswerLines w mine lines × (after ≡ before ++ unit_text (title w s) lines)
+
+-- behind a text stands that of the units which check these files and types
+abbrev pub AddsUnits : ListedOf → (ℕ → List JavaEntry) → List Scope → List ℕ → List ℕ → Type 0
+AddsUnits w mine ss before after = (units : List ℕ) × AreUnitTexts w mine ss units × (after ≡ before ++ units)
+
 -- the text of the answers by the log of a run: the units of the folder's own files and then of its own types, and the last line
 abbrev pub IsAnswersText : ListedOf → List JavaEntry → List ℕ → Type 0
 IsAnswersText w log text =

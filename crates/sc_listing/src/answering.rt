@@ -1,12 +1,11 @@
 //! The text of the answers that checkers took.
 
-ghost use Rattle.std.specs.Prelude.{◌≡◌, ℕ, ◌+◌, ◌<◌, ◌≤◌, ◌^◌, ◌++◌, List, codes, length, All, IfOk, OnOk, map};
+ghost use Rattle.std.specs.Prelude.{◌≡◌, ◌+◌, ◌<◌, ◌≤◌, ◌^◌, ◌++◌, codes, length, All, IfOk, OnOk, map};
 ghost use Rattle.std.specs.List.{flat_map};
 ghost use Rattle.std.specs.String.{string_bytes};
-ghost use Rattle.sc_listing.specs.Answers.{unit_of, unit_text, AreAnswerLines, AreUnitTexts, IsAnswersText};
+ghost use Rattle.sc_listing.specs.Answers.{unit_of, AddsUnit, AddsUnits, IsAnswersText};
 ghost use Rattle.sc_listing.specs.ByUnit.{entries_at};
 ghost use Rattle.sc_listing.specs.Listed.{listed_of};
-ghost use Rattle.sc_listing.specs.Titles.{title};
 
 use crate::answer_lines::answer_lines;
 use crate::by_unit::{by_unit, unit_count, unit_of};
@@ -37,8 +36,7 @@ fn push_unit(
     s: Scope,
     mine: &[&Entry<Java, DiagList>],
 ) -> Result<(), AllocError>
-    ensures { OnOk result ((lines : List (List ℕ)) × AreAnswerLines (listed_of w.now) (map (λ e. e.now) mine.now) lines
-        × (string_bytes text.new ≡ string_bytes text.old ++ unit_text (title (listed_of w.now) s) lines)) }
+    ensures { OnOk result (AddsUnit (listed_of w.now) s (map (λ e. e.now) mine.now) (string_bytes text.old) (string_bytes text.new)) }
 {
     let lines = answer_lines(alloc, w, mine)?;
     text.push_str("unit ")?;
@@ -56,8 +54,8 @@ fn push_units(
     entries: &[Vec<&Entry<Java, DiagList>>],
 ) -> Result<(), AllocError>
     requires { All (λ s. unit_of w.now.layout.now s < length entries.now) scopes.now }
-    ensures { OnOk result ((units : List ℕ) × AreUnitTexts (listed_of w.now) (entries_at (map (λ v. map (λ e. e.now) v.items) entries.now)) scopes.now units
-        × (string_bytes text.new ≡ string_bytes text.old ++ units)) }
+    ensures { OnOk result (AddsUnits (listed_of w.now) (entries_at (map (λ v. map (λ e. e.now) v.items) entries.now)) scopes.now (string_bytes text.old)
+        (string_bytes text.new)) }
 {
     for s in scopes {
         let mine = &entries[unit_of(w.layout, *s) as usize];

@@ -1,4 +1,4 @@
-mod Laid
+pub mod Laid
 mod Moves
 mod Sums
 mod Weights

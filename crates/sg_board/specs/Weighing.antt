@@ -1,5 +1,5 @@
 -- The rules of the lock and of a deque: what lies there is what was given and not taken.
-use Rattle.std.specs.Prelude.{◌≡◌, ℕ, ◌+◌, ◌≤◌, ◌==◌, cond, List, [], ◌∷◌, ◌++◌, length, Option, Some, None}
+use Rattle.std.specs.Prelude.{◌≡◌, ℕ, ◌+◌, ◌≤◌, ◌==◌, cond, List, [], ◌∷◌, ◌++◌, length, Option, Some, None, MatchOption}
 use mathlib.Core.Option.{some}
 use lib.ListN.{get_elem?}
 use Rattle.sg_board.specs.declared.worker_view.WorkerView.{WorkerView}
@@ -21,6 +21,14 @@ total f (v ∷ vs) = f v + total f vs
 -- a pass with so many parts, which gave these tasks and took these, and so many boards
 abbrev pub account : ℕ → List ℕ → List ℕ → ℕ → WorkerView
 account p g t k = record { parts = p; given = g; taken = t; boards = k }
+
+-- the pass with so many parts
+abbrev pub with_parts : ℕ → WorkerView → WorkerView
+with_parts p v = account p v.given v.taken v.boards
+
+-- the pass together with another one, which has one part
+abbrev pub with_one_part : WorkerView → WorkerView → WorkerView
+with_one_part v w = account (v.parts + 1) (v.given ++ w.given) (v.taken ++ w.taken) (v.boards + w.boards)
 
 -- more than there are workers
 abbrev pub all_parts : ℕ
@@ -86,6 +94,18 @@ IsBalanced v = v.parts ≡ all_parts → (h : ℕ → ℕ) → weigh h v.taken �
 abbrev pub weigh_option : {T : Type 0} → (T → ℕ) → (ℕ → ℕ) → Option T → ℕ
 weigh_option number h None = 0
 weigh_option number h (Some t) = h (number t)
+
+-- the task was taken, where there is one, and otherwise nothing has changed
+abbrev pub TookOption : {T : Type 0} → (T → ℕ) → WorkerView → Option T → WorkerView → Type 0
+TookOption number v o w = MatchOption o (w ≡ v) (λ t. Took v (number t ∷ []) v.boards w)
+
+-- one of these passes took the task, where there is one
+abbrev pub PassesTook : {T : Type 0} → (T → ℕ) → List WorkerView → Option T → List WorkerView → Type 0
+PassesTook number old o new = (h : ℕ → ℕ) → total (taken_by h) new ≡ total (taken_by h) old + weigh_option number h o
+
+-- the task came to those of the first numbers, or comes back
+abbrev pub IsPutDown : {T : Type 0} → (T → ℕ) → T → Option T → List ℕ → List ℕ → Type 0
+IsPutDown number t back old new = (h : ℕ → ℕ) → weigh_option number h back + weigh h new ≡ h (number t) + weigh h old
 
 -- tasks of the one weight came from elsewhere, and tasks of the other went there: for the rest, what was taken is given or kept. The shape stays
 pub record Moves {S X : Type 0} (given taken : S → (ℕ → ℕ) → ℕ) (shape : S → X) (old new : S) (came went : (ℕ → ℕ) → ℕ) : Type 0 where

@@ -23,7 +23,7 @@ impl<T: Task> TaskHolder for Board<T> {
 
 impl<T: Task> Board<T> {
     ghost use Rattle.std.specs.Prelude.{◌≡◌, ◌+◌, ◌≤◌, ℕ, [], map, vec_capacity, IfOk};
-    ghost use Rattle.sg_board.specs.Weighing.{weigh, weigh_option};
+    ghost use Rattle.sg_board.specs.Weighing.{weigh, weigh_option, IsPutDown};
     ghost use Rattle.sg_board.specs.Places.{numbers_at, counting};
 
     /// A board for so many tasks, which are with the workers.
@@ -72,7 +72,7 @@ impl<T: Task> Board<T> {
 
     /// Lays a task down after a step that told this. It comes back where it is ready.
     pub(crate) fn put(&mut self, task: T, told: Progress) -> Option<T>
-        ensures { (h : ℕ → ℕ) → weigh_option T.number h result + weigh h (⟦<Board<T> as TaskHolder>⟧.numbers self.new) ≡ h (T.number task) + weigh h (⟦<Board<T> as TaskHolder>⟧.numbers self.old) }
+        ensures { IsPutDown T.number task result (⟦<Board<T> as TaskHolder>⟧.numbers self.old) (⟦<Board<T> as TaskHolder>⟧.numbers self.new) }
     {
         let ready = self.places.put(task, told);
         if ready.is_none() {

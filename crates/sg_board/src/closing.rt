@@ -3,8 +3,8 @@ ghost use Rattle.std.specs.Prelude.{◌≡◌, ◌+◌, ◌<◌, ◌≤◌, ◌+
 ghost use Rattle.crossbeam_queue.specs.Passes.{view, IsPassOf};
 ghost use Rattle.crossbeam_deque.specs.Handles.{view as deque_view, worker_view, worker_deque, stealer_deque};
 ghost use Rattle.sg_board.specs.Shapes.{DequeId, AreShapes};
-ghost use Rattle.sg_board.specs.Shares.{ways, ways_taken, ways_given, hands_taken, hands_given, hand_shape, hand_shapes};
-ghost use Rattle.sg_board.specs.Weighing.{weigh, adds, account, parts_of, given_by, taken_by, all_parts};
+ghost use Rattle.sg_board.specs.Shares.{HasRoom, IsDrained, AreDrained, AreGathered, AreTakenApart, ways, all_ways_taken, all_ways_given, hand_shape, hand_shapes};
+ghost use Rattle.sg_board.specs.Weighing.{weigh, with_one_part, parts_of, given_by, taken_by, all_parts};
 
 use crate::board::Board;
 use crate::hand::Hand;
@@ -38,9 +38,9 @@ pub(crate) fn gather_up<T: Task, R: Wait>(
 )
     requires pass { IsPassOf lock.now pass.old × (0 < (view pass.old).parts) }
     requires hands { All (λ x. IsPassOf lock.now x.pass) hands.items × AreShapes (vec_len hands) (hand_shapes hands.items) × (vec_len hands < all_parts) }
-    requires room { (left.owners.items ≡ []) × (left.ways.items ≡ []) × (left.spare.items ≡ []) × (vec_len hands ≤ vec_capacity left.owners) × (vec_len hands ≤ vec_capacity left.ways) × (vec_len hands ≤ vec_capacity left.spare) }
+    requires room { HasRoom (vec_len hands) left }
     ensures pass { IsPassOf lock.now pass.new × ((view pass.new).parts ≡ (view pass.old).parts + vec_len hands) × ((view pass.new).boards ≡ (view pass.old).boards) }
-    ensures all { (h : ℕ → ℕ) → taken_by h (view pass.new) + given_by h (view pass.old) + hands_given T.number hands.items h + weigh h (⟦<Board<T> as TaskHolder>⟧.numbers board.old) ≡ taken_by h (view pass.old) + hands_taken hands.items h + given_by h (view pass.new) + weigh h (⟦<Board<T> as TaskHolder>⟧.numbers board.new) }
+    ensures all { AreGathered T.number ⟦<Board<T> as TaskHolder>⟧.numbers (view pass.old) (view pass.new) hands.items board.old board.new }
 {
     let Left {
         owners,
@@ -71,8 +71,7 @@ fn take_apart<T: Task, R: Wait>(
     ensures owners { map (λ o. worker_deque o) owners.new.items ≡ map (λ x. (hand_shape x).own) hands.items }
     ensures parts { (k : ℕ) → All (λ x. (hand_shape x).parts ≡ k) hands.items → All (λ o. parts_of (worker_view o) ≡ k) owners.new.items }
     ensures ways { (ds : List DequeId) → All (λ x. (hand_shape x).ways ≡ ds) hands.items → All (λ w. ways w.items ≡ ds) all_ways.new.items }
-    ensures all { (h : ℕ → ℕ) → taken_by h (view pass.new) + adds (λ o. taken_by h (worker_view o)) owners.new.items + adds (λ w. ways_taken h w.items) all_ways.new.items + given_by h (view pass.old) + hands_given T.number hands.items h + weigh h (⟦<Board<T> as TaskHolder>⟧.numbers board.old)
-        ≡ taken_by h (view pass.old) + hands_taken hands.items h + given_by h (view pass.new) + adds (λ o. given_by h (worker_view o)) owners.new.items + adds (λ w. ways_given h w.items) all_ways.new.items + weigh h (⟦<Board<T> as TaskHolder>⟧.numbers board.new) }
+    ensures all { AreTakenApart T.number ⟦<Board<T> as TaskHolder>⟧.numbers (view pass.old) (view pass.new) hands.items owners.new.items all_ways.new.items board.old board.new }
 {
     let mut left = hands;
     while let Some(hand) = left.pop() {
@@ -125,7 +124,7 @@ fn close_all<T: Task, R: Wait>(
     requires room { (spare.items ≡ []) × (vec_len all_ways ≤ vec_capacity all_ways) × (vec_len all_ways ≤ vec_capacity spare) × (vec_len all_ways < all_parts) }
     requires parts { All (λ o. parts_of (worker_view o) + vec_len all_ways ≡ all_parts) owners.items }
     requires ways { All (λ w. ways w.items ≡ map (λ o. worker_deque o) owners.items) all_ways.items }
-    ensures { (h : ℕ → ℕ) → adds (λ o. given_by h (worker_view o)) owners.items + adds (λ w. ways_given h w.items) all_ways.items + weigh h (⟦<Board<T> as TaskHolder>⟧.numbers board.old) ≡ adds (λ o. taken_by h (worker_view o)) owners.items + adds (λ w. ways_taken h w.items) all_ways.items + weigh h (⟦<Board<T> as TaskHolder>⟧.numbers board.new) }
+    ensures { AreDrained ⟦<Board<T> as TaskHolder>⟧.numbers owners.items all_ways.items board.old board.new }
 {
     let mut left = owners;
     let mut full = all_ways;
@@ -151,8 +150,8 @@ fn absorb_ways<T: Task>(
     ensures parts { (worker_view owner.new).parts ≡ (worker_view owner.old).parts + vec_len full }
     ensures room { (result.items ≡ []) × (vec_capacity result ≡ vec_capacity full) × (vec_len spare.new ≡ vec_len full) × (vec_capacity spare.new ≡ vec_capacity spare.old) }
     ensures ways { (ds : List DequeId) → All (λ w. ways w.items ≡ ds ++ worker_deque owner.old ∷ []) full.items → All (λ w. ways w.items ≡ ds) spare.new.items }
-    ensures taken { (h : ℕ → ℕ) → taken_by h (worker_view owner.new) + adds (λ w. ways_taken h w.items) spare.new.items ≡ taken_by h (worker_view owner.old) + adds (λ w. ways_taken h w.items) full.items }
-    ensures given { (h : ℕ → ℕ) → given_by h (worker_view owner.new) + adds (λ w. ways_given h w.items) spare.new.items ≡ given_by h (worker_view owner.old) + adds (λ w. ways_given h w.items) full.items }
+    ensures taken { (h : ℕ → ℕ) → taken_by h (worker_view owner.new) + all_ways_taken h spare.new.items ≡ taken_by h (worker_view owner.old) + all_ways_taken h full.items }
+    ensures given { (h : ℕ → ℕ) → given_by h (worker_view owner.new) + all_ways_given h spare.new.items ≡ given_by h (worker_view owner.old) + all_ways_given h full.items }
 {
     let mut left = full;
     while let Some(more) = left.pop() {
@@ -170,7 +169,7 @@ fn absorb_ways<T: Task>(
 fn absorb_way<T: Task>(owner: &mut Owner<T>, thief: Thief<T>)
     requires { (stealer_deque thief.stealer ≡ worker_deque owner.old) × (0 < (worker_view owner.old).parts) }
     ensures same { worker_deque owner.new ≡ worker_deque owner.old }
-    ensures view { worker_view owner.new ≡ account ((worker_view owner.old).parts + 1) ((worker_view owner.old).given ++ (deque_view thief.pass).given) ((worker_view owner.old).taken ++ (deque_view thief.pass).taken) ((worker_view owner.old).boards + (deque_view thief.pass).boards) }
+    ensures view { worker_view owner.new ≡ with_one_part (worker_view owner.old) (deque_view thief.pass) }
 {
     let Thief { stealer: _, pass } = thief;
     owner.absorb::<OnePart>(pass);
@@ -179,7 +178,7 @@ fn absorb_way<T: Task>(owner: &mut Owner<T>, thief: Thief<T>)
 /// Lays all tasks of a deque onto the board, of which no other pass is left.
 fn drain<T: Task, R: Wait>(rt: &R, board: &mut Board<T>, owner: Owner<T>)
     requires { (worker_view owner).parts ≡ all_parts }
-    ensures { (h : ℕ → ℕ) → given_by h (worker_view owner) + weigh h (⟦<Board<T> as TaskHolder>⟧.numbers board.old) ≡ taken_by h (worker_view owner) + weigh h (⟦<Board<T> as TaskHolder>⟧.numbers board.new) }
+    ensures { IsDrained ⟦<Board<T> as TaskHolder>⟧.numbers owner board.old board.new }
 {
     let mut owner = owner;
     for _ in rt.forever() {

@@ -4,7 +4,7 @@ ghost use Rattle.crossbeam_queue.specs.Passes.{view, IsPassOf};
 ghost use Rattle.crossbeam_deque.specs.Handles.{worker_view, worker_deque};
 ghost use Rattle.sg_board.specs.Shapes.{DequeId, AreShapes};
 ghost use Rattle.sg_board.specs.Shares.{AreNew, HandsMove, hands_taken, hands_given, hand_shapes};
-ghost use Rattle.sg_board.specs.Weighing.{account, all_parts, weigh};
+ghost use Rattle.sg_board.specs.Weighing.{account, with_parts, all_parts, weigh};
 
 use crate::board::Board;
 use crate::hand::Hand;
@@ -86,7 +86,7 @@ pub(crate) fn hands<T: Task>(
     requires pass { IsPassOf lock.now pass.old × ((view pass.old).parts ≡ all_parts) × (vec_len owners < all_parts) }
     requires owners { All (λ o. worker_view o ≡ account (all_parts - vec_len owners) [] [] 0) owners.items }
     requires ways { (vec_len all_ways ≡ vec_len owners) × All (λ w. AreNew (map (λ o. worker_deque o) owners.items) w.items) all_ways.items }
-    ensures pass { IfOk result (λ r. IsPassOf lock.now pass.new × (view pass.new ≡ account (all_parts - vec_len owners) (view pass.old).given (view pass.old).taken (view pass.old).boards)) }
+    ensures pass { IfOk result (λ r. IsPassOf lock.now pass.new × (view pass.new ≡ with_parts (all_parts - vec_len owners) (view pass.old))) }
     ensures hands { IfOk result (λ r. (vec_len r ≡ vec_len owners) × All (λ x. IsPassOf lock.now x.pass) r.items × AreShapes (vec_len owners) (hand_shapes r.items)) }
     ensures none { IfOk result (λ r. (h : ℕ → ℕ) → (hands_taken r.items h ≡ 0) × (hands_given T.number r.items h ≡ 0)) }
 {

@@ -18,7 +18,7 @@ pub(crate) struct Places<T: Task> {
 impl<T: Task> Places<T> {
     ghost use Rattle.std.specs.Prelude.{◌≡◌, ◌+◌, ℕ, [], All, IfOk, MatchOption, map};
     ghost use Rattle.sg_board.specs.Places.{HasTask, numbers_at, counting};
-    ghost use Rattle.sg_board.specs.Weighing.{weigh, weigh_option};
+    ghost use Rattle.sg_board.specs.Weighing.{weigh, weigh_option, IsPutDown};
 
     /// A place for each task, with none of them there.
     pub(crate) fn new(alloc: Global, count: usize) -> Result<Places<T>, AllocError>
@@ -47,7 +47,7 @@ impl<T: Task> Places<T> {
 
     /// Lays a task down after a step that told this. It comes back where it is ready.
     pub(crate) fn put(&mut self, task: T, told: Progress) -> Option<T>
-        ensures { (h : ℕ → ℕ) → weigh_option T.number h result + weigh h (numbers_at T.number self.new.places.items) ≡ h (T.number task) + weigh h (numbers_at T.number self.old.places.items) }
+        ensures { IsPutDown T.number task result (numbers_at T.number self.old.places.items) (numbers_at T.number self.new.places.items) }
     {
         let number = task.number();
         self.places[number as usize].put(task, told)

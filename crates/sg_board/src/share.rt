@@ -1,7 +1,7 @@
 //! A worker's share of the ready tasks.
-ghost use Rattle.std.specs.Prelude.{◌≡◌, ◌+◌, ◌<◌, ℕ, map};
+ghost use Rattle.std.specs.Prelude.{◌≡◌, ◌<◌, ℕ, map};
 ghost use Rattle.crossbeam_deque.specs.Handles.{view, worker_view, stealer_deque};
-ghost use Rattle.sg_board.specs.Weighing.{weigh_option, total, given_by, taken_by};
+ghost use Rattle.sg_board.specs.Weighing.{PassesTook, total, given_by};
 
 use crate::owner::{GivesTasks, Owner, TakesTasks};
 use crate::task::Task;
@@ -24,13 +24,13 @@ pub(crate) struct Share<T: Task> {
 
 impl<T: Task> Share<T> {
     ghost use Rattle.std.specs.Prelude.{◌≡◌, MatchResult};
-    ghost use Rattle.sg_board.specs.Shares.{ShareMoves};
+    ghost use Rattle.sg_board.specs.Shares.{ShareGets, ShareMoves};
     ghost use Rattle.sg_board.specs.Weighing.{weigh_option};
 
     /// Lays a ready task into the deque, where the others find it too, or keeps it where the deque has no room and no memory.
     /// The room for all tasks is there, so it is the first try that serves.
     pub(crate) fn lay<R: Wait>(&mut self, rt: &R, task: T)
-        ensures { ShareMoves T.number self.old self.new (λ h. h (T.number task)) (λ h. 0) }
+        ensures { ShareGets T.number self.old self.new task }
     {
         let mut task = task;
         for _ in rt.forever() {
@@ -44,7 +44,7 @@ impl<T: Task> Share<T> {
 
     /// The same, once.
     fn try_lay(&mut self, task: T) -> Result<(), T>
-        ensures { MatchResult result (λ _. ShareMoves T.number self.old self.new (λ h. h (T.number task)) (λ h. 0)) (λ t. (t ≡ task) × ShareMoves T.number self.old self.new (λ h. 0) (λ h. 0)) }
+        ensures { MatchResult result (λ _. ShareGets T.number self.old self.new task) (λ t. (t ≡ task) × ShareMoves T.number self.old self.new (λ h. 0) (λ h. 0)) }
     {
         let Err(refused) = self.owner.push_as::<GivesTasks>(task) else {
             return Ok(());
@@ -95,7 +95,7 @@ impl<T: Task> Share<T> {
 
 /// A task of the first deque that has one, and whether all deques were seen empty where there is none.
 fn steal_first<T: Task>(thieves: &mut Vec<Thief<T>>) -> (Option<T>, bool)
-    ensures taken { (h : ℕ → ℕ) → total (taken_by h) (map (λ t. view t.pass) thieves.new.items) ≡ total (taken_by h) (map (λ t. view t.pass) thieves.old.items) + weigh_option T.number h result.0 }
+    ensures taken { PassesTook T.number (map (λ t. view t.pass) thieves.old.items) result.0 (map (λ t. view t.pass) thieves.new.items) }
     ensures given { (h : ℕ → ℕ) → total (given_by h) (map (λ t. view t.pass) thieves.new.items) ≡ total (given_by h) (map (λ t. view t.pass) thieves.old.items) }
     ensures same { map (λ t. stealer_deque t.stealer) thieves.new.items ≡ map (λ t. stealer_deque t.stealer) thieves.old.items }
 {

@@ -19,17 +19,17 @@ pub(crate) struct Thief<T: Task> {
 }
 
 impl<T: Task> Thief<T> {
-    ghost use Rattle.std.specs.Prelude.{◌≡◌, ◌-◌, ◌<◌, List, [], ◌∷◌, ◌++◌, IfOk, MatchOption};
+    ghost use Rattle.std.specs.Prelude.{◌≡◌, ◌-◌, ◌<◌, List, [], ◌∷◌, ◌++◌, IfOk};
     ghost use Rattle.sg_board.specs.Shapes.{DequeId};
     ghost use Rattle.sg_board.specs.Shares.{AreNew};
     ghost use Rattle.crossbeam_deque.specs.Handles.{view, IsPassOf, stealer_deque, worker_deque, worker_view};
-    ghost use Rattle.sg_board.specs.Weighing.{account, Took};
+    ghost use Rattle.sg_board.specs.Weighing.{account, with_parts, TookOption};
 
     /// A way to this deque.
     pub(crate) fn new(owner: &mut Owner<T>) -> Result<Thief<T>, AllocError>
         requires { 1 < (worker_view owner.old).parts }
         ensures same { worker_deque owner.new ≡ worker_deque owner.old }
-        ensures view { IfOk result (λ t. worker_view owner.new ≡ account ((worker_view owner.old).parts - 1) (worker_view owner.old).given (worker_view owner.old).taken (worker_view owner.old).boards) }
+        ensures view { IfOk result (λ t. worker_view owner.new ≡ with_parts ((worker_view owner.old).parts - 1) (worker_view owner.old)) }
         ensures thief { IfOk result (λ t. (stealer_deque t.stealer ≡ worker_deque owner.old) × (view t.pass ≡ account 1 [] [] 0)) }
     {
         let stealer = owner.stealer()?;
@@ -40,7 +40,7 @@ impl<T: Task> Thief<T> {
     /// Takes the first task, where there is one, and otherwise tells whether the deque was seen empty.
     pub(crate) fn steal(&mut self) -> (Option<T>, bool)
         ensures same { stealer_deque self.new.stealer ≡ stealer_deque self.old.stealer }
-        ensures stolen { MatchOption result.0 (view self.new.pass ≡ view self.old.pass) (λ t. Took (view self.old.pass) (T.number t ∷ []) (view self.old.pass).boards (view self.new.pass)) }
+        ensures stolen { TookOption T.number (view self.old.pass) result.0 (view self.new.pass) }
     {
         match self.stealer.steal_as::<StealsTasks>(&mut self.pass) {
             Steal::Success(task) => (Some(task), true),

@@ -37,6 +37,10 @@ IsKeyedItem h k q (whole ps) = IsItem (state_of h) q (whole ps) × (IsPassedOver
 abbrev pub PassesOver : {D : Type 0} → HeldOf D → Wanting D → Asked D → List (List Step) → Type 0
 PassesOver h k q paths = (ps : List Step) → Contains paths ps → IsPassedOver h k q ps → ⊥
 
+-- where none of the old paths is passed over, none of the new ones is
+abbrev pub KeepsPassing : {D : Type 0} → HeldOf D → Wanting D → Asked D → List (List Step) → List (List Step) → Type 0
+KeepsPassing h k q old new = PassesOver h k q old → PassesOver h k q new
+
 -- these are targets that are enough to look at, and none of them is passed over
 pub record AreKeyedTargets {D : Type 0} (h : HeldOf D) (k : Wanting D) (q : Asked D) (ps : List Step) (l : ℕ) (ts : List Scope) : Type 0 where
   pub enough : AreTargets (state_of h) q ps l ts

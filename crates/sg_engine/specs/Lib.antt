@@ -1,4 +1,5 @@
 pub mod Back
+pub mod Explore
 pub mod Front
 pub mod Growth
 pub mod Keyed

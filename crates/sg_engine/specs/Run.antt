@@ -1,5 +1,5 @@
 -- What a run over the items that are left does.
-use Rattle.std.specs.Prelude.{◌≡◌, ◌≢◌, ℕ, ◌+◌, ◌<◌, ◌≤◌, List, [], ◌∷◌, ◌++◌, Bool, true, false, ◌⊎◌, length, drop}
+use Rattle.std.specs.Prelude.{◌≡◌, ◌≢◌, ℕ, ◌+◌, ◌<◌, ◌≤◌, List, [], ◌∷◌, ◌++◌, Bool, true, false, ◌⊎◌, Result, IfOk, length, drop}
 use Rattle.std.specs.List.{Contains}
 use Rattle.sg_base.specs.declared.scope.Scope.{Scope}
 use Rattle.sg_base.specs.declared.step.Step.{Step}
@@ -43,6 +43,11 @@ IsSearchOn h k ps q start nodes left found explored going =
 abbrev pub IsSearchIn : {D : Type 0} → HeldOf D → Wanting D → List (List Step) → Asked D → Tree D → Type 0
 IsSearchIn h k ps q t = IsSearchOn h k ps q t.start t.nodes.items (left_of t) t.found.items t.explored t.going × (t.next ≤ length t.queue.items)
 
+-- each such search of the old tree is one of the new tree, where the call did not fail
+abbrev pub KeepsSearches : {D T E : Type 0} → HeldOf D → Wanting D → Tree D → Tree D → Result T E → Type 0
+KeepsSearches {D} h k old new result =
+    (q : Asked D) (ps : List (List Step)) → IsSearchIn h k ps q old → IfOk result (λ _. IsSearchIn h k ps q new)
+
 -- where all that was put aside is blocked, it still is
 abbrev pub KeepsBlocked : {D : Type 0} → State D → Tree D → Tree D → Type 0
 KeepsBlocked h old new = AllBlock h old.start old.nodes.items old.blocked.items → AllBlock h new.start new.nodes.items new.blocked.items
@@ -74,3 +79,8 @@ IsReply h q limit t Ready = (t.explored ≤ limit) × (((front_of t).left ≡ []
 IsReply h q limit t Blocked =
     (t.explored ≤ limit) × ((front_of t).left ≢ []) × AllBlocked h q (front_of t) × (t.going ≤ most_paths) × (left_of t ≡ t.blocked.items)
 IsReply h q limit t Moved = (t.explored ≡ limit) × ((x : Item) × Contains (front_of t).left x × (IsBlocked h q.start x → ⊥)) × (t.going ≤ most_paths)
+
+-- each search of the old tree is one of the new tree, and what the call answers is a reply to it, where the call did not fail
+abbrev pub RepliesToSearches : {D T E : Type 0} → HeldOf D → Wanting D → ℕ → Tree D → Tree D → Result T E → (T → Progress) → Type 0
+RepliesToSearches {D} h k limit old new result reply =
+    (q : Asked D) (ps : List (List Step)) → IsSearchIn h k ps q old → IfOk result (λ r. IsSearchIn h k ps q new × IsReply (state_of h) q limit new (reply r))

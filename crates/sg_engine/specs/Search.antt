@@ -1,5 +1,5 @@
 -- Searches as callers see them, and what an advance does.
-use Rattle.std.specs.Prelude.{◌≡◌, ◌≢◌, ◌+◌, ◌<◌, ◌≤◌, List, [], Bool, ◌⊎◌, Option, Some, length}
+use Rattle.std.specs.Prelude.{◌≡◌, ◌≢◌, ◌+◌, ◌<◌, ◌≤◌, List, [], Bool, ◌⊎◌, Option, Some, Result, IfOk, length}
 use Rattle.std.specs.List.{Contains}
 use Rattle.sg_base.specs.declared.mark.Mark.{Mark}
 use Rattle.sg_base.specs.List.{IsRising, MoreThan}
@@ -13,9 +13,11 @@ use Rattle.sg_query.specs.Query.{Asked, KindOf, kind_of}
 use Rattle.sg_query.specs.Shadow.{AreUnshadowed}
 use Rattle.sg_query.specs.State.{Item, IsItem, IsSettled}
 use Rattle.sg_state.specs.declared.need.Need.{Need}
+use Rattle.sg_state.specs.Held.{HeldOf}
 use Rattle.sg_engine.specs.declared.progress.Progress.{Progress}
 use Rattle.sg_engine.specs.declared.progress.Progress.TheVariants.{Moved, Blocked, Ready}
 use Rattle.sg_engine.specs.Front.{Front, IsBlocked, AllBlocked}
+use Rattle.sg_engine.specs.Keyed.{Wanting, PassesOver, KeepsPassing, IsKeyedItem}
 use Rattle.sg_engine.specs.Need.{AreNeeds}
 
 -- a search: its query, the expression of the words that it follows, its front, and, where the last advance was blocked or ready, what blocked it
@@ -48,3 +50,14 @@ IsProgress h q old new Blocked =
     (new.front.explored ≤ old.front.explored + 64) × (new.front.left ≢ []) × AllBlocked h q new.front × (new.front.going ≤ most_paths) × (IsSettled h q → ⊥) × AreNeeds h q new.needs
 IsProgress h q old new Moved =
     (new.front.explored ≡ old.front.explored + 64) × ((x : Item) × Contains new.front.left x × (IsBlocked h q.start x → ⊥)) × (new.front.going ≤ most_paths) × MoreThan new.front.explored (IsItem h q)
+
+-- by what each predicate wants and what each query asks: where none of the old search's paths is passed over, none of the new one's is
+abbrev pub SearchKeepsPassing : {P D : Type 0} → HeldOf D → (P → Wanting D) → (Query P → Asked D) → SearchOf P D → SearchOf P D → Type 0
+SearchKeepsPassing h wanting asking old new =
+    KeepsPassing h (wanting old.query.pred) (asking old.query) old.front.paths new.front.paths
+
+-- where none of the old search's paths is passed over, an advance that moved has explored fewer items than the query has, without those that are
+-- passed over
+abbrev pub ExploresFewer : {P D E : Type 0} → HeldOf D → (P → Wanting D) → (Query P → Asked D) → SearchOf P D → SearchOf P D → Result Progress E → Type 0
+ExploresFewer h wanting asking old new result =
+    PassesOver h (wanting old.query.pred) (asking old.query) old.front.paths → IfOk result (λ p. p ≡ Moved → MoreThan new.front.explored (IsKeyedItem h (wanting old.query.pred) (asking old.query)))

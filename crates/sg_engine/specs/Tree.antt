@@ -1,9 +1,10 @@
 -- Paths that share their fronts: each is another path with one more step.
-use Rattle.std.specs.Prelude.{◌≡◌, ℕ, ◌+◌, ◌*◌, ◌<◌, ◌≤◌, List, [], ◌∷◌, ◌++◌, ◌↔◌, length, map, drop, slice_index_or, Option, Some, None}
-use Rattle.std.specs.List.{AllByRecursion}
+use Rattle.std.specs.Prelude.{◌≡◌, ℕ, ◌+◌, ◌*◌, ◌<◌, ◌≤◌, List, [], ◌∷◌, ◌++◌, ◌↔◌, length, map, drop, slice_index_or, Option, Some, None, Result, OnOk}
+use Rattle.std.specs.List.{AllByRecursion, Contains}
 use Rattle.sg_base.specs.declared.scope.Scope.{Scope}
 use Rattle.sg_base.specs.declared.step.Step.{Step}
 use Rattle.sg_base.specs.Label.{Word}
+use Rattle.sg_base.specs.List.{IsDistinct}
 use Rattle.sg_base.specs.Path.{end_of, word_of}
 use Rattle.sg_base.specs.PathTree.{path_at}
 use Rattle.sg_base.specs.State.{State}
@@ -19,6 +20,7 @@ use Rattle.sg_engine.specs.declared.tree.Tree.{Tree}
 use Rattle.sg_engine.specs.declared.work.Work.{Work}
 use Rattle.sg_engine.specs.declared.work.Work.TheVariants.{Next, Whole}
 use Rattle.sg_engine.specs.Front.{Front, IsBlocked, Stands}
+use Rattle.sg_engine.specs.Growth.{Gains, no_front}
 
 -- the paths of nodes that come behind these
 abbrev pub paths_from : List (List Step) → List Node → List (List Step)
@@ -49,6 +51,11 @@ pub record IsNodeOf (start : Scope) (e : ExprOf) (n : Node) (ps : List Step) : T
 abbrev pub IsWorkOf : RestOf → ℕ → Work → Type 0
 IsWorkOf r place (Next k l) = (k ≡ place) × ((w : Word) × InRest r (l ∷ w))
 IsWorkOf r place (Whole k) = (k ≡ place) × InRest r []
+
+-- the new work is the old and each piece that the path of a node at this place offers, once
+abbrev pub OffersOn : RestOf → ℕ → List Work → List Work → Type 0
+OffersOn r place old new =
+    (ws : List Work) × (new ≡ old ++ ws) × IsDistinct ws × (length ws ≤ 17) × ((x : Work) → (Contains ws x) ↔ (IsWorkOf r place x))
 
 -- the path that was found at a node, with its datum
 abbrev pub found_of : {D : Type 0} → Scope → List (List Step) → FoundAt D → Found D
@@ -90,6 +97,14 @@ pub record IsTreeOn {D : Type 0} (e : ExprOf) (start : Scope) (nodes : List Node
 -- the tree is one of paths from its start along the words of the expression
 abbrev pub IsTree : {D : Type 0} → ExprOf → Tree D → Type 0
 IsTree e t = IsTreeOn e t.start t.nodes.items (left_of t) t.found.items t.explored t.going × (t.next ≤ length t.queue.items)
+
+-- the tree is one along the words of the expression, and has the path with no step and what that offers
+abbrev pub IsRootOf : {D : Type 0} → ExprOf → Tree D → Type 0
+IsRootOf e t = IsTree e t × Gains e no_front (front_of t) ([] ∷ [])
+
+-- along the words of each expression along which the old tree goes, the new one has these paths more, where the call did not fail
+abbrev pub GrowsBy : {D T E : Type 0} → Tree D → Tree D → List (List Step) → Result T E → Type 0
+GrowsBy old new more result = (e : ExprOf) → IsTree e old → OnOk result (IsTree e new × Gains e (front_of old) (front_of new) more)
 
 -- the same where this work was taken from what is left
 abbrev pub IsTreeWith : {D : Type 0} → ExprOf → Work → Tree D → Type 0

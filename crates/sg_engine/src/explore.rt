@@ -1,5 +1,4 @@
-ghost use Rattle.std.specs.Prelude.{◌≡◌, ◌≢◌, ◌<◌, [], List, Some, OnOk, IfOk, length};
-ghost use Rattle.sg_base.specs.declared.scope.Scope.{Scope as ScopeOf};
+ghost use Rattle.std.specs.Prelude.{◌≡◌, ◌≢◌, ◌<◌, [], List, OnOk, IfOk, length};
 ghost use Rattle.sg_base.specs.Graph.{row_of};
 ghost use Rattle.sg_base.specs.Label.{Word};
 ghost use Rattle.sg_base.specs.Path.{end_of};
@@ -10,12 +9,12 @@ ghost use Rattle.sg_base.specs.declared.step.Step.{Step as StepOf};
 ghost use Rattle.sg_query.specs.Query.{Asked};
 ghost use Rattle.sg_state.specs.Held.{IsHeld, state_of};
 ghost use Rattle.sg_engine.specs.declared.work.Work.TheVariants.{Next as NextOf, Whole as WholeOf};
+ghost use Rattle.sg_engine.specs.Explore.{AfterWork, TakesWork, GrowsIntoRow, AreTargetsFor, AreTargetsUnder};
 ghost use Rattle.sg_engine.specs.Front.{Stands};
-ghost use Rattle.sg_engine.specs.Growth.{Gains, into_targets};
-ghost use Rattle.sg_engine.specs.Keyed.{AreKeyedTargets, PassesOver, wanting_by};
+ghost use Rattle.sg_engine.specs.Keyed.{wanting_by};
 ghost use Rattle.sg_engine.specs.Nodes.{IsRestAfter};
-ghost use Rattle.sg_engine.specs.Run.{HasTaken, HasStepped, IsSearchIn, KeepsBlocked};
-ghost use Rattle.sg_engine.specs.Tree.{paths_of, place_of, front_of, IsTree, IsTreeWith, StandsWith, ListsOn};
+ghost use Rattle.sg_engine.specs.Run.{HasTaken, HasStepped, IsSearchIn, KeepsSearches, KeepsBlocked};
+ghost use Rattle.sg_engine.specs.Tree.{paths_of, place_of, front_of, IsTree, IsTreeWith, ListsOn};
 
 use crate::tree::Tree;
 use crate::work::Work;
@@ -38,7 +37,7 @@ fn push_keyed<I: Instance>(
     requires there { place < length tree.old.nodes.items }
     requires after { IsRestAfter tree.old.nodes place l set }
     requires ends { (w : Word) × (w ≢ []) × Accepts tree.old.nodes.words set w → ⊥ }
-    ensures tree { (e : ExprOf) → IsTree e tree.old → OnOk result (IsTree e tree.new × ((ts : List ScopeOf) × Gains e (front_of tree.old) (front_of tree.new) (into_targets tree.old.start (path_at (paths_of tree.old.nodes.items) place) l ts) × ((q : Asked I.Datum) (p : I.Pred) → q.expr ≡ e → q.start ≡ tree.old.start → q.wants ≡ I.wants p → I.pred_key p ≡ Some key → AreKeyedTargets h.now (wanting_by I.wants I.datum_key I.pred_key p) q (path_at (paths_of tree.old.nodes.items) place) l ts))) }
+    ensures tree { GrowsIntoRow tree.old tree.new place l result (AreTargetsUnder I.wants I.datum_key I.pred_key h.now key tree.old place l) }
     ensures next { tree.new.next ≡ tree.old.next }
     ensures explored { tree.new.explored ≡ tree.old.explored }
     ensures blocked { tree.new.blocked ≡ tree.old.blocked }
@@ -63,7 +62,7 @@ fn push_row<I: Instance>(
     requires tree { (e : ExprOf) × IsTree e tree.old }
     requires there { place < length tree.old.nodes.items }
     requires row { row.now ≡ row_of h.now.graph (end_of tree.old.start (path_at (paths_of tree.old.nodes.items) place)) l }
-    ensures tree { (e : ExprOf) → IsTree e tree.old → OnOk result (IsTree e tree.new × ((ts : List ScopeOf) × Gains e (front_of tree.old) (front_of tree.new) (into_targets tree.old.start (path_at (paths_of tree.old.nodes.items) place) l ts) × ((q : Asked I.Datum) → q.expr ≡ e → q.start ≡ tree.old.start → q.wants ≡ I.wants pred.now → AreKeyedTargets h.now (wanting_by I.wants I.datum_key I.pred_key pred.now) q (path_at (paths_of tree.old.nodes.items) place) l ts))) }
+    ensures tree { GrowsIntoRow tree.old tree.new place l result (AreTargetsFor h.now (wanting_by I.wants I.datum_key I.pred_key pred.now) tree.old place l) }
     ensures next { tree.new.next ≡ tree.old.next }
     ensures explored { tree.new.explored ≡ tree.old.explored }
     ensures blocked { tree.new.blocked ≡ tree.old.blocked }
@@ -89,7 +88,7 @@ fn take_row<I: Instance>(
     requires held { IsHeld h.now }
     requires tree { (e : ExprOf) × IsTreeWith e (NextOf place l) tree.old }
     requires there { place < length tree.old.nodes.items }
-    ensures stands { (q : Asked I.Datum) → q.start ≡ tree.old.start → q.wants ≡ I.wants pred.now → IsTreeWith q.expr (NextOf place l) tree.old → StandsWith (state_of h.now) q (NextOf place l) tree.old → OnOk result (IsTree q.expr tree.new × Stands (state_of h.now) q (front_of tree.new) × (PassesOver h.now (wanting_by I.wants I.datum_key I.pred_key pred.now) q (paths_of tree.old.nodes.items) → PassesOver h.now (wanting_by I.wants I.datum_key I.pred_key pred.now) q (paths_of tree.new.nodes.items))) }
+    ensures stands { TakesWork h.now (wanting_by I.wants I.datum_key I.pred_key pred.now) (NextOf place l) tree.old tree.new result }
     ensures taken { IfOk result (HasTaken (state_of h.now) (NextOf place l) tree.old tree.new) }
     ensures lists { ListsOn tree.old tree.new }
 {
@@ -118,7 +117,7 @@ fn take_datum<I: Instance>(
     requires held { IsHeld h.now }
     requires tree { (e : ExprOf) × IsTreeWith e (WholeOf place) tree.old }
     requires there { place < length tree.old.nodes.items }
-    ensures stands { (q : Asked I.Datum) → q.start ≡ tree.old.start → q.wants ≡ I.wants pred.now → IsTreeWith q.expr (WholeOf place) tree.old → StandsWith (state_of h.now) q (WholeOf place) tree.old → OnOk result (IsTree q.expr tree.new × Stands (state_of h.now) q (front_of tree.new)) }
+    ensures stands { AfterWork (state_of h.now) (I.wants pred.now) (WholeOf place) tree.old result (λ q. IsTree q.expr tree.new × Stands (state_of h.now) q (front_of tree.new)) }
     ensures nodes { tree.new.nodes ≡ tree.old.nodes }
     ensures taken { IfOk result (HasTaken (state_of h.now) (WholeOf place) tree.old tree.new) }
     ensures lists { ListsOn tree.old tree.new }
@@ -159,7 +158,7 @@ fn take<I: Instance>(
     requires held { IsHeld h.now }
     requires tree { (e : ExprOf) × IsTreeWith e w tree.old }
     requires there { place_of w < length tree.old.nodes.items }
-    ensures stands { (q : Asked I.Datum) → q.start ≡ tree.old.start → q.wants ≡ I.wants pred.now → IsTreeWith q.expr w tree.old → StandsWith (state_of h.now) q w tree.old → OnOk result (IsTree q.expr tree.new × Stands (state_of h.now) q (front_of tree.new) × (PassesOver h.now (wanting_by I.wants I.datum_key I.pred_key pred.now) q (paths_of tree.old.nodes.items) → PassesOver h.now (wanting_by I.wants I.datum_key I.pred_key pred.now) q (paths_of tree.new.nodes.items))) }
+    ensures stands { TakesWork h.now (wanting_by I.wants I.datum_key I.pred_key pred.now) w tree.old tree.new result }
     ensures taken { IfOk result (HasTaken (state_of h.now) w tree.old tree.new) }
     ensures lists { ListsOn tree.old tree.new }
 {
@@ -186,7 +185,7 @@ pub fn explore_next<I: Instance>(
 ) -> Result<Stepped, AllocError>
     requires held { IsHeld h.now }
     requires stands { (q : Asked I.Datum) × (ps : List (List StepOf)) × IsSearchIn h.now (wanting_by I.wants I.datum_key I.pred_key pred.now) ps q tree.old }
-    ensures stands { (q : Asked I.Datum) (ps : List (List StepOf)) → IsSearchIn h.now (wanting_by I.wants I.datum_key I.pred_key pred.now) ps q tree.old → IfOk result (λ _. IsSearchIn h.now (wanting_by I.wants I.datum_key I.pred_key pred.now) ps q tree.new) }
+    ensures stands { KeepsSearches h.now (wanting_by I.wants I.datum_key I.pred_key pred.now) tree.old tree.new result }
     ensures stepped { IfOk result (HasStepped tree.old tree.new) }
     ensures blocked { OnOk result (KeepsBlocked (state_of h.now) tree.old tree.new) }
     ensures lists { ListsOn tree.old tree.new }

@@ -1,11 +1,9 @@
-ghost use Rattle.std.specs.Prelude.{◌≡◌, ◌<◌, ◌↔◌, IfOk, length};
-ghost use Rattle.std.specs.List.{Contains, AllByRecursion};
+ghost use Rattle.std.specs.Prelude.{◌≡◌, ◌<◌, IfOk, length};
+ghost use Rattle.std.specs.List.{AllByRecursion};
 ghost use Rattle.sg_base.specs.declared.scope.Scope.{Scope as ScopeOf};
 ghost use Rattle.sg_base.specs.List.{IsRising};
 ghost use Rattle.sg_expr.specs.Tree.{ExprOf};
-ghost use Rattle.sg_state.specs.declared.need.Need.{Need as NeedOf};
-ghost use Rattle.sg_engine.specs.declared.work.Work.{Work as WorkOf};
-ghost use Rattle.sg_engine.specs.Need.{need_of};
+ghost use Rattle.sg_engine.specs.Need.{need_of, AreNeedsOf};
 ghost use Rattle.sg_state.specs.Need.{need_cmp};
 ghost use Rattle.sg_engine.specs.Tree.{paths_of, item_of, place_of, AreNodes};
 
@@ -28,7 +26,7 @@ fn need_at(nodes: &Nodes, w: &Work) -> Need
 /// What each piece of blocked work waits for, in turn.
 fn all_needs(alloc: Global, nodes: &Nodes, blocked: &[Work]) -> Result<Vec<Need>, AllocError>
     requires there { AllByRecursion (λ w. place_of w < length nodes.now.items) blocked.now }
-    ensures { IfOk result (λ r. (e : ExprOf) (start : ScopeOf) → AreNodes e start nodes.now.items → (n : NeedOf) → (Contains r.items n) ↔ ((w : WorkOf) × Contains blocked.now w × (n ≡ need_of start (item_of (paths_of nodes.now.items) w)))) }
+    ensures { IfOk result (λ r. AreNeedsOf nodes.now.items blocked.now r.items) }
 {
     let mut all = Vec::new(alloc);
     for w in blocked {
@@ -41,7 +39,7 @@ fn all_needs(alloc: Global, nodes: &Nodes, blocked: &[Work]) -> Result<Vec<Need>
 pub fn needs_of(alloc: Global, nodes: &Nodes, blocked: &[Work]) -> Result<Vec<Need>, AllocError>
     requires there { AllByRecursion (λ w. place_of w < length nodes.now.items) blocked.now }
     ensures rising { IfOk result (λ r. IsRising need_cmp r.items) }
-    ensures exact { IfOk result (λ r. (e : ExprOf) (start : ScopeOf) → AreNodes e start nodes.now.items → (n : NeedOf) → (Contains r.items n) ↔ ((w : WorkOf) × Contains blocked.now w × (n ≡ need_of start (item_of (paths_of nodes.now.items) w)))) }
+    ensures exact { IfOk result (λ r. AreNeedsOf nodes.now.items blocked.now r.items) }
 {
     let mut needs = all_needs(alloc, nodes, blocked)?;
     needs.sort_unstable();

@@ -4,9 +4,9 @@ ghost use Rattle.sg_expr.specs.Tree.{ExprOf};
 ghost use Rattle.sg_order.specs.Order.{precedes};
 ghost use Rattle.sg_base.specs.declared.step.Step.{Step as StepOf};
 ghost use Rattle.sg_query.specs.Query.{Asked};
-ghost use Rattle.sg_state.specs.Held.{IsHeld, state_of};
+ghost use Rattle.sg_state.specs.Held.{IsHeld};
 ghost use Rattle.sg_engine.specs.Keyed.{wanting_by};
-ghost use Rattle.sg_engine.specs.Run.{IsSearchIn, IsReply};
+ghost use Rattle.sg_engine.specs.Run.{IsSearchIn, RepliesToSearches};
 ghost use Rattle.sg_engine.specs.Outcome.{IsOutcome};
 ghost use Rattle.sg_engine.specs.Tree.{front_of, IsTree, LeadsBack};
 
@@ -70,7 +70,7 @@ pub fn try_advance<I: Instance>(
     requires held { IsHeld h.now }
     requires stands { (q : Asked I.Datum) × (ps : List (List StepOf)) × IsSearchIn h.now (wanting_by I.wants I.datum_key I.pred_key pred.now) ps q tree.old }
     requires anew { spent.old ≡ None }
-    ensures stands { (q : Asked I.Datum) (ps : List (List StepOf)) → IsSearchIn h.now (wanting_by I.wants I.datum_key I.pred_key pred.now) ps q tree.old → IfOk result (λ o. IsSearchIn h.now (wanting_by I.wants I.datum_key I.pred_key pred.now) ps q tree.new × IsReply (state_of h.now) q (tree.old.explored + 64) tree.new o.progress) }
+    ensures stands { RepliesToSearches h.now (wanting_by I.wants I.datum_key I.pred_key pred.now) (tree.old.explored + 64) tree.old tree.new result (λ o. o.progress) }
     ensures outcome { IfOk result (λ o. IsOutcome I.same_datum (precedes order.now) tree.new o.progress o.needs.items o.answer) }
     ensures more { IfOk result (λ _. tree.old.explored ≤ tree.new.explored) }
     ensures back { LeadsBack tree.old tree.new spent.new }

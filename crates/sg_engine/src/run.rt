@@ -4,7 +4,7 @@ ghost use Rattle.sg_query.specs.Query.{Asked};
 ghost use Rattle.sg_state.specs.Held.{IsHeld, state_of};
 ghost use Rattle.sg_engine.specs.Tree.{ListsOn, LeadsBack};
 ghost use Rattle.sg_engine.specs.Keyed.{wanting_by};
-ghost use Rattle.sg_engine.specs.Run.{IsSearchIn, HasRun, IsReply};
+ghost use Rattle.sg_engine.specs.Run.{IsSearchIn, KeepsSearches, RepliesToSearches, HasRun};
 
 use crate::explore::{Stepped, explore_next};
 use crate::look::{Look, look_on};
@@ -38,7 +38,7 @@ fn run_on<I: Instance>(
 ) -> Result<Run, AllocError>
     requires held { IsHeld h.now }
     requires stands { (q : Asked I.Datum) × (ps : List (List StepOf)) × IsSearchIn h.now (wanting_by I.wants I.datum_key I.pred_key pred.now) ps q tree.old }
-    ensures stands { (q : Asked I.Datum) (ps : List (List StepOf)) → IsSearchIn h.now (wanting_by I.wants I.datum_key I.pred_key pred.now) ps q tree.old → IfOk result (λ _. IsSearchIn h.now (wanting_by I.wants I.datum_key I.pred_key pred.now) ps q tree.new) }
+    ensures stands { KeepsSearches h.now (wanting_by I.wants I.datum_key I.pred_key pred.now) tree.old tree.new result }
     ensures ran { IfOk result (HasRun (state_of h.now) most tree.old tree.new) }
     ensures more { IfOk result (λ _. tree.old.explored ≤ tree.new.explored) }
     ensures lists { ListsOn tree.old tree.new }
@@ -69,7 +69,7 @@ fn look_again<I: Instance>(
     requires held { IsHeld h.now }
     requires stands { (q : Asked I.Datum) × (ps : List (List StepOf)) × IsSearchIn h.now (wanting_by I.wants I.datum_key I.pred_key pred.now) ps q tree.old }
     requires over { tree.old.next ≡ length tree.old.queue.items }
-    ensures stands { (q : Asked I.Datum) (ps : List (List StepOf)) → IsSearchIn h.now (wanting_by I.wants I.datum_key I.pred_key pred.now) ps q tree.old → IfOk result (λ p. IsSearchIn h.now (wanting_by I.wants I.datum_key I.pred_key pred.now) ps q tree.new × IsReply (state_of h.now) q (tree.old.explored + left) tree.new p) }
+    ensures stands { RepliesToSearches h.now (wanting_by I.wants I.datum_key I.pred_key pred.now) (tree.old.explored + left) tree.old tree.new result (λ p. p) }
     ensures more { IfOk result (λ _. tree.old.explored ≤ tree.new.explored) }
     ensures back { LeadsBack tree.old tree.new spent.new }
 {
@@ -102,7 +102,7 @@ pub fn go_on<I: Instance>(
     requires held { IsHeld h.now }
     requires stands { (q : Asked I.Datum) × (ps : List (List StepOf)) × IsSearchIn h.now (wanting_by I.wants I.datum_key I.pred_key pred.now) ps q tree.old }
     requires anew { spent.old ≡ None }
-    ensures stands { (q : Asked I.Datum) (ps : List (List StepOf)) → IsSearchIn h.now (wanting_by I.wants I.datum_key I.pred_key pred.now) ps q tree.old → IfOk result (λ p. IsSearchIn h.now (wanting_by I.wants I.datum_key I.pred_key pred.now) ps q tree.new × IsReply (state_of h.now) q (tree.old.explored + 64) tree.new p) }
+    ensures stands { RepliesToSearches h.now (wanting_by I.wants I.datum_key I.pred_key pred.now) (tree.old.explored + 64) tree.old tree.new result (λ p. p) }
     ensures more { IfOk result (λ _. tree.old.explored ≤ tree.new.explored) }
     ensures back { LeadsBack tree.old tree.new spent.new }
 {

@@ -2,11 +2,10 @@ ghost use Rattle.std.specs.Prelude.{◌≡◌, ◌≤◌, ◌<◌, [], Some, Non
 ghost use Rattle.sg_base.specs.Graph.{HasScope};
 ghost use Rattle.sg_base.specs.State.{State};
 ghost use Rattle.sg_query.specs.Query.{asked};
-ghost use Rattle.sg_base.specs.List.{MoreThan};
 ghost use Rattle.sg_state.specs.Held.{HeldOf, state_of};
 ghost use Rattle.sg_engine.specs.Front.{Stands};
-ghost use Rattle.sg_engine.specs.Keyed.{IsKeyedItem, PassesOver, wanting_by};
-ghost use Rattle.sg_engine.specs.Search.{IsOfTable, IsProgress};
+ghost use Rattle.sg_engine.specs.Keyed.{PassesOver, wanting_by};
+ghost use Rattle.sg_engine.specs.Search.{IsOfTable, IsProgress, SearchKeepsPassing, ExploresFewer};
 
 use crate::outcome::try_advance;
 use crate::progress::Progress;
@@ -95,8 +94,8 @@ impl<I: Instance> Search<I> {
         ensures table { IsOfTable t.now self.new }
         ensures stands { Stands (state_of h.now) (asked I.wants I.same_datum t.now self.old.query) self.new.front }
         ensures progress { IfOk result (IsProgress (state_of h.now) (asked I.wants I.same_datum t.now self.old.query) self.old self.new) }
-        ensures keyed { PassesOver h.now (wanting_by I.wants I.datum_key I.pred_key self.old.query.pred) (asked I.wants I.same_datum t.now self.old.query) self.old.front.paths → PassesOver h.now (wanting_by I.wants I.datum_key I.pred_key self.old.query.pred) (asked I.wants I.same_datum t.now self.old.query) self.new.front.paths }
-        ensures fewer { PassesOver h.now (wanting_by I.wants I.datum_key I.pred_key self.old.query.pred) (asked I.wants I.same_datum t.now self.old.query) self.old.front.paths → IfOk result (λ p. p ≡ Progress.Moved → MoreThan self.new.front.explored (IsKeyedItem h.now (wanting_by I.wants I.datum_key I.pred_key self.old.query.pred) (asked I.wants I.same_datum t.now self.old.query))) }
+        ensures keyed { SearchKeepsPassing h.now (wanting_by I.wants I.datum_key I.pred_key) (asked I.wants I.same_datum t.now) self.old self.new }
+        ensures fewer { ExploresFewer h.now (wanting_by I.wants I.datum_key I.pred_key) (asked I.wants I.same_datum t.now) self.old self.new result }
         ensures more { self.old.front.explored ≤ self.new.front.explored }
         ensures err { OnErr result (self.new ≡ self.old) }
     {

@@ -1,18 +1,15 @@
-ghost use Rattle.std.specs.Prelude.{ℕ, ◌≡◌, ◌+◌, ◌≤◌, ◌<◌, [], ◌∷◌, ◌++◌, List, ◌↔◌, IfOk, OnOk, length};
+ghost use Rattle.std.specs.Prelude.{ℕ, ◌≡◌, ◌+◌, ◌≤◌, ◌<◌, [], ◌∷◌, ◌++◌, ◌↔◌, IfOk, OnOk, length};
 ghost use Rattle.std.specs.Arc.{arc_value};
-ghost use Rattle.std.specs.List.{Contains};
 ghost use Rattle.sg_base.specs.Label.{Has, Word};
-ghost use Rattle.sg_base.specs.List.{IsDistinct};
 ghost use Rattle.sg_base.specs.PathTree.{path_at};
 ghost use Rattle.sg_expr.specs.Positions.{Accepts, first_of};
 ghost use Rattle.sg_expr.specs.Tree.{ExprOf};
 ghost use Rattle.sg_expr.specs.Word.{In};
 ghost use Rattle.sg_query.specs.Steps.{is_fresh};
-ghost use Rattle.sg_engine.specs.declared.work.Work.{Work as WorkOf};
 ghost use Rattle.sg_engine.specs.Front.{step_to};
-ghost use Rattle.sg_engine.specs.Growth.{Gains, into_targets, no_front};
+ghost use Rattle.sg_engine.specs.Growth.{into_targets};
 ghost use Rattle.sg_engine.specs.Nodes.{IsRestAfter};
-ghost use Rattle.sg_engine.specs.Tree.{paths_of, IsWorkOf, front_of, IsTree, IsFrontOf, ListsOn};
+ghost use Rattle.sg_engine.specs.Tree.{paths_of, OffersOn, IsTree, IsRootOf, GrowsBy, IsFrontOf, ListsOn};
 
 use crate::nodes::Nodes;
 use crate::work::Work;
@@ -53,7 +50,7 @@ fn push_offers(
     place: usize,
     queue: &mut Vec<Work>,
 ) -> Result<(), AllocError>
-    ensures offers { OnOk result ((ws : List WorkOf) × (queue.new.items ≡ queue.old.items ++ ws) × IsDistinct ws × (length ws ≤ 17) × ((x : WorkOf) → (Contains ws x) ↔ (IsWorkOf (record { words = words.now; set = set }) place x))) }
+    ensures offers { OnOk result (OffersOn (record { words = words.now; set = set }) place queue.old.items queue.new.items) }
     ensures lists { IsFrontOf queue.old.items queue.new.items }
 {
     let heads = heads_of(words, set);
@@ -79,7 +76,7 @@ impl<D> Tree<D> {
         words: Arc<Positions, Global>,
     ) -> Result<Tree<D>, AllocError>
         ensures start { IfOk result (λ t. t.start ≡ start) }
-        ensures tree { (e : ExprOf) → ((w : Word) → (Accepts (arc_value words) (first_of (arc_value words)) w) ↔ (In e w)) → IfOk result (λ t. IsTree e t × Gains e no_front (front_of t) ([] ∷ [])) }
+        ensures tree { (e : ExprOf) → ((w : Word) → (Accepts (arc_value words) (first_of (arc_value words)) w) ↔ (In e w)) → IfOk result (IsRootOf e) }
     {
         let label = Label::new(0);
         let set = words.first();
@@ -110,7 +107,7 @@ impl<D> Tree<D> {
         requires there { parent < length self.old.nodes.items }
         requires few { self.old.going ≤ length self.old.nodes.items }
         requires after { IsRestAfter self.old.nodes parent l set }
-        ensures tree { (e : ExprOf) → IsTree e self.old → OnOk result (IsTree e self.new × Gains e (front_of self.old) (front_of self.new) ((path_at (paths_of self.old.nodes.items) parent ++ step_to l to ∷ []) ∷ [])) }
+        ensures tree { GrowsBy self.old self.new ((path_at (paths_of self.old.nodes.items) parent ++ step_to l to ∷ []) ∷ []) result }
         ensures next { self.new.next ≡ self.old.next }
         ensures explored { self.new.explored ≡ self.old.explored }
         ensures blocked { self.new.blocked ≡ self.old.blocked }
@@ -159,7 +156,7 @@ impl<D> Tree<D> {
         requires tree { (e : ExprOf) × IsTree e self.old }
         requires there { place < length self.old.nodes.items }
         requires after { IsRestAfter self.old.nodes place l set }
-        ensures tree { (e : ExprOf) → IsTree e self.old → OnOk result (IsTree e self.new × Gains e (front_of self.old) (front_of self.new) (into_targets self.old.start (path_at (paths_of self.old.nodes.items) place) l row.now)) }
+        ensures tree { GrowsBy self.old self.new (into_targets self.old.start (path_at (paths_of self.old.nodes.items) place) l row.now) result }
         ensures next { self.new.next ≡ self.old.next }
         ensures explored { self.new.explored ≡ self.old.explored }
         ensures blocked { self.new.blocked ≡ self.old.blocked }

@@ -33,24 +33,6 @@ none_laid whole none e = ap (λ l. whole ++ reverse l) e ∙ append-nil whole
 
 -- ---- a list that is emptied from behind
 
-module _ {X Y : Type 0} (f : X → Y) where
-  map_last : (xs : List X) (x : X) → map f (xs ++ x ∷ []) ≡ map f xs ++ f x ∷ []
-  map_last [] x = refl
-  map_last (y ∷ xs) x = ap (λ l. f y ∷ l) (map_last xs x)
-
-  -- the last one moves over
-  pub more_laid : (left rest : List X) (x : X) (done more : List Y) (y : Y) (whole : List Y) → left ≡ rest ++ x ∷ [] → more ≡ done ++ y ∷ [] → f x ≡ y → map f left ++ reverse done ≡ whole → map f rest ++ reverse more ≡ whole
-  more_laid left rest x done more y whole popped pushed is laid =
-      ap (λ l. map f rest ++ l) (ap reverse pushed ∙ reverse-append done (y ∷ []))
-      ∙ ap (λ z. map f rest ++ z ∷ reverse done) (sym is)
-      ∙ sym (append_assoc (map f rest) (f x ∷ []) (reverse done))
-      ∙ ap (λ l. l ++ reverse done) (sym (map_last rest x) ∙ ap (map f) (sym popped))
-      ∙ laid
-
-  pub none_left : (left : List X) (done turned : List Y) (whole : List Y) → length left ≡ 0 → turned ≡ reverse done → map f left ++ reverse done ≡ whole → turned ≡ whole
-  none_left [] done turned whole none t laid = t ∙ laid
-  none_left (x ∷ left) done turned whole none t laid = absurd (omega (arith, none))
-
 pub whole_kept : {X : Type 0} (P : X → Type 0) (left done whole : List X) → length left ≡ 0 → left ++ done ≡ whole → All P done → All P whole
 whole_kept P [] done whole none e h = subst (λ xs. All P xs) e h
 whole_kept P (x ∷ left) done whole none e h = absurd (omega (arith, none))

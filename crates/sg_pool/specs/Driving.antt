@@ -1,6 +1,7 @@
 -- Units that are driven at a desk, each by one worker at a time.
 use Rattle.std.specs.Prelude.{◌≡◌, ℕ, List, [], ◌∷◌, ◌++◌, Bool, false, IsTrue, Option, Some, None}
 use Rattle.std.specs.List.{Contains}
+use Rattle.sg_base.specs.declared.instance.Instance.{Ghosts as InstanceGhosts}
 use Rattle.sg_base.specs.declared.scope.Scope.{Scope}
 use Rattle.sg_base.specs.Graph.{GraphOf}
 use Rattle.sg_query.specs.Query.{KindOf}
@@ -11,6 +12,8 @@ use Rattle.sg_unit.specs.declared.op.Op.{Op}
 use Rattle.sg_unit.specs.declared.op.Op.TheVariants.{Fresh, AddEdge, SetDatum, CloseRow, Ask, Advance, Take, End}
 use Rattle.sg_unit.specs.declared.reply.Reply.{Reply}
 use Rattle.sg_unit.specs.declared.reply.Reply.TheVariants.{Made, Done, Moved, Ready, Suspended, Answer as Answered, Stuck}
+use Rattle.sg_unit.specs.declared.seat.Seat.{Ghosts as SeatGhosts}
+use Rattle.sg_unit.specs.declared.unit.Unit.{Ghosts as UnitGhosts}
 use Rattle.sg_unit.specs.Own.{IsOwnRun}
 use Rattle.sg_unit.specs.Run.{RunOf, run_of, NoAsk, IsOpenAsk, IsReadyAsk}
 use Rattle.sg_unit.specs.Served.{IsServed}
@@ -86,6 +89,18 @@ module _ {I R D P V F : Type 0} (wants : P → D → Bool) (same : D → D → B
     pub own : IsOwnRun (setting_of wants same (opening (fixed v)) (kinds (fixed v))) u mine
     pub doing : IsDoing (run_of (setting_of wants same (opening (fixed v)) (kinds (fixed v))) mine) u d
     pub served : IsServed wants same opening kinds edges data_at asks result number fixed stands mine u (fixed v) v y
+
+-- the same, by the words of an instance, a unit and a seat
+module _ {I R D P V S : Type 0} (instance : InstanceGhosts I D P) (unit : UnitGhosts V I R D P) (seat : SeatGhosts S I R D P) where
+  -- the unit is driven by the entries of this seat and under its number, at a desk whose run is the seat's, and this comes next for it
+  abbrev pub IsDrivenAt : S → V → Option (Reply I D P) → Doing → Type 0
+  IsDrivenAt s v y d =
+      IsDriven instance.wants instance.same_datum unit.opening unit.kinds unit.owes_edge unit.owes_datum unit.may_ask unit.comes_to unit.number unit.fixed unit.stands (seat.opening s) (seat.kinds s) (seat.mine s) (seat.number s) v y d
+
+module _ {I R D P S : Type 0} (instance : InstanceGhosts I D P) (seat : SeatGhosts S I R D P) where
+  -- whether the unit of the seat is live, as its entries tell
+  abbrev pub is_live_at : S → Bool
+  is_live_at s = (run_of (setting_of instance.wants instance.same_datum (seat.opening s) (seat.kinds s)) (seat.mine s)).live (seat.number s)
 
 -- ---- what contracts see of a unit that is driven
 

@@ -7,7 +7,8 @@ use Rattle.sg_unit.specs.declared.op.Op.TheVariants.{Fresh, AddEdge, SetDatum, C
 use Rattle.sg_unit.specs.declared.reply.Reply.{Reply}
 use Rattle.sg_unit.specs.declared.reply.Reply.TheVariants.{Made, Done}
 use Rattle.sg_unit.specs.Run.{Setting, run_of}
-use Rattle.sg_unit.specs.Unit.{setting_of}
+use Rattle.sg_unit.specs.Trace.{Past}
+use Rattle.sg_unit.specs.Unit.{setting_of, GivesOwed}
 
 -- no scope, and four units
 abbrev pub four : {D : Type 0} → HeldOf D
@@ -22,6 +23,10 @@ four = record {
 -- the setting that opens so, with no kind of query and these ways to compare data
 abbrev pub four_setting : {D P : Type 0} → (P → D → Bool) → (D → D → Bool) → Setting D P
 four_setting wants same = setting_of wants same four []
+
+-- what the unit gave by now is what it owes, for one that owes whatever it gives
+abbrev pub GivesAny : {I R D P : Type 0} → Setting D P → ℕ → (Past I R D P → Option (Op I R D P) → Type 0) → Option (Reply I D P) → Op I R D P → Type 0
+GivesAny z u Stood last op = GivesOwed z u (λ _ _ _ _. Unit {0}) (λ _ _ _. Unit {0}) (λ _ _. Unit {0}) (λ _ _. Unit {0}) Stood last op
 
 -- what the desk replies to the unit with this number, which made so many scopes: it makes scopes and ends units, and does nothing else
 abbrev pub made_reply : {I R D P : Type 0} → ℕ → ℕ → Op I R D P → Option (Reply I D P)

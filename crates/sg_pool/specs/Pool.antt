@@ -1,6 +1,7 @@
 -- Units that are run by several workers at one desk.
 use Rattle.std.specs.Prelude.{◌≡◌, ◌<◌, ◌⊎◌, ℕ, List, [], Bool, true, false, Option, Some, None, All, length, slice_get}
 use Rattle.std.specs.List.{Contains}
+use Rattle.sg_base.specs.declared.instance.Instance.{Ghosts as InstanceGhosts}
 use Rattle.sg_base.specs.declared.scope.Scope.{Scope}
 use Rattle.sg_base.specs.Graph.{GraphOf}
 use Rattle.sg_query.specs.Query.{KindOf}
@@ -8,6 +9,8 @@ use Rattle.sg_query.specs.declared.query.Query.{Query}
 use Rattle.sg_state.specs.Held.{HeldOf}
 use Rattle.sg_unit.specs.declared.entry.Entry.{Entry}
 use Rattle.sg_unit.specs.declared.op.Op.{Op}
+use Rattle.sg_unit.specs.declared.seat.Seat.{Ghosts as SeatGhosts}
+use Rattle.sg_unit.specs.declared.unit.Unit.{Ghosts as UnitGhosts}
 use Rattle.sg_unit.specs.Run.{run_of}
 use Rattle.sg_unit.specs.Served.{SomeStands, IsHonestBy}
 use Rattle.sg_unit.specs.Trace.{Past}
@@ -73,6 +76,24 @@ module _ {I R D P V F S K : Type 0} (wants : P → D → Bool) (same : D → D �
     pub honest : IsHonestBy wants same opening kinds edges data_at asks result (mine r.seat) (number_at r.seat) (fixed r.unit)
     pub ended : has_ended r.doing ≡ true → EndedAt r.seat
     pub stuck : r.stuck ≡ true → MetStuck (mine r.seat)
+
+-- ---- the same, by the words of an instance, a unit and a seat
+
+-- each unit and the seat of its place in the list have that place as their number and are both new; and the seat's run is the unit's
+abbrev pub AreNewlySeated : {I R D P V S : Type 0} → UnitGhosts V I R D P → SeatGhosts S I R D P → List V → List S → Type 0
+AreNewlySeated {V = V} {S = S} unit seat units seats =
+    (u : ℕ) (v : V) (s : S) → slice_get units u ≡ Some v → slice_get seats u ≡ Some s → IsNewAt unit.number unit.fixed unit.opening unit.kinds unit.stands seat.number seat.mine seat.spent seat.opening seat.kinds u v s
+
+module _ {I R D P V S K : Type 0} (instance : InstanceGhosts I D P) (unit : UnitGhosts V I R D P) (seat : SeatGhosts S I R D P) (Sits : K → S → Type 0) where
+  -- what is handed on of these units that were run at this desk: a seat for each in their order, and every unit has ended, or some entry was answered that every live unit waits
+  abbrev pub ArePooled : K → List (RunningOf V S) → List S → Type 0
+  ArePooled d start seats =
+      HasPooled instance.wants instance.same_datum unit.opening unit.kinds unit.owes_edge unit.owes_datum unit.may_ask unit.comes_to unit.number unit.fixed unit.stands seat.number seat.mine seat.spent seat.opening seat.kinds Sits d start seats
+
+  -- what is known of a unit of a run at this desk, where that is named, that began with these units and met no want of memory
+  abbrev pub IsKeptJob : Option K → List V → RunningOf V S → Type 0
+  IsKeptJob desk start r =
+      IsKept instance.wants instance.same_datum unit.opening unit.kinds unit.owes_edge unit.owes_datum unit.may_ask unit.comes_to unit.number unit.fixed unit.stands seat.number seat.mine seat.spent seat.opening seat.kinds Sits desk start r
 
 -- each of these units has ended, or some entry of one was answered that every live unit waits
 abbrev pub IsOver : {V S : Type 0} → List (RunningOf V S) → Type 0

@@ -4,7 +4,7 @@ ghost use Rattle.std.specs.Prelude.{◌≡◌, ◌<◌, ◌^◌, ◌+◌, length
 ghost use Rattle.sg_unit.specs.declared.reply.Reply.{Reply as ReplyOf};
 ghost use Rattle.sg_pool.specs.declared.after.After.TheVariants.{IsStuck};
 ghost use Rattle.sg_pool.specs.declared.doing.Doing.TheVariants.{Advances, Takes, Gives, HasEnded};
-ghost use Rattle.sg_pool.specs.Driving.{IsDriven, MetStuck, AddsOne, doing_after, doing_advanced, after_of};
+ghost use Rattle.sg_pool.specs.Driving.{IsDrivenAt, MetStuck, AddsOne, doing_after, doing_advanced, after_of};
 
 use crate::after::After;
 use crate::doing::Doing;
@@ -74,8 +74,8 @@ pub(crate) fn give<
     last: &mut Option<Reply<U::Inst>>,
 ) -> Result<Stepped, AllocError>
     requires seat { K.sits desk.now seat.old × (K.Place.spent seat.old ≡ false) }
-    requires driven { IsDriven U.Inst.wants U.Inst.same_datum U.opening U.kinds U.owes_edge U.owes_datum U.may_ask U.comes_to U.number U.fixed U.stands (K.Place.opening seat.old) (K.Place.kinds seat.old) (K.Place.mine seat.old) (K.Place.number seat.old) unit.old last.old Gives }
-    ensures driven { IfOk result (λ s. IsDriven U.Inst.wants U.Inst.same_datum U.opening U.kinds U.owes_edge U.owes_datum U.may_ask U.comes_to U.number U.fixed U.stands (K.Place.opening seat.new) (K.Place.kinds seat.new) (K.Place.mine seat.new) (K.Place.number seat.new) unit.new last.new s.doing) }
+    requires driven { IsDrivenAt U.Inst.Instance U.Unit K.Place.Seat seat.old unit.old last.old Gives }
+    ensures driven { IfOk result (λ s. IsDrivenAt U.Inst.Instance U.Unit K.Place.Seat seat.new unit.new last.new s.doing) }
     ensures stuck { IfOk result (λ s. s.after ≡ IsStuck → MetStuck (K.Place.mine seat.new)) }
     ensures met { IfOk result (λ _. MetStuck (K.Place.mine seat.old) → MetStuck (K.Place.mine seat.new)) }
     ensures longer { IfOk result (λ _. (length (K.Place.mine seat.new) ≡ length (K.Place.mine seat.old) + 1) × (length (K.Place.mine seat.new) < 2 ^ 63)) }
@@ -110,8 +110,8 @@ pub(crate) fn advance<
     last: &Option<Reply<U::Inst>>,
 ) -> Result<Stepped, AllocError>
     requires seat { K.sits desk.now seat.old × (K.Place.spent seat.old ≡ false) }
-    requires driven { IsDriven U.Inst.wants U.Inst.same_datum U.opening U.kinds U.owes_edge U.owes_datum U.may_ask U.comes_to U.number U.fixed U.stands (K.Place.opening seat.old) (K.Place.kinds seat.old) (K.Place.mine seat.old) (K.Place.number seat.old) unit.now last.now Advances }
-    ensures driven { IfOk result (λ s. IsDriven U.Inst.wants U.Inst.same_datum U.opening U.kinds U.owes_edge U.owes_datum U.may_ask U.comes_to U.number U.fixed U.stands (K.Place.opening seat.new) (K.Place.kinds seat.new) (K.Place.mine seat.new) (K.Place.number seat.new) unit.now last.now s.doing) }
+    requires driven { IsDrivenAt U.Inst.Instance U.Unit K.Place.Seat seat.old unit.now last.now Advances }
+    ensures driven { IfOk result (λ s. IsDrivenAt U.Inst.Instance U.Unit K.Place.Seat seat.new unit.now last.now s.doing) }
     ensures stuck { IfOk result (λ s. s.after ≡ IsStuck → MetStuck (K.Place.mine seat.new)) }
     ensures met { IfOk result (λ _. MetStuck (K.Place.mine seat.old) → MetStuck (K.Place.mine seat.new)) }
     ensures longer { IfOk result (λ _. (length (K.Place.mine seat.new) ≡ length (K.Place.mine seat.old) + 1) × (length (K.Place.mine seat.new) < 2 ^ 63)) }
@@ -139,8 +139,8 @@ pub(crate) fn take<
     last: &mut Option<Reply<U::Inst>>,
 ) -> Result<Stepped, AllocError>
     requires seat { K.sits desk.now seat.old × (K.Place.spent seat.old ≡ false) }
-    requires driven { IsDriven U.Inst.wants U.Inst.same_datum U.opening U.kinds U.owes_edge U.owes_datum U.may_ask U.comes_to U.number U.fixed U.stands (K.Place.opening seat.old) (K.Place.kinds seat.old) (K.Place.mine seat.old) (K.Place.number seat.old) unit.now last.old Takes }
-    ensures driven { IfOk result (λ s. IsDriven U.Inst.wants U.Inst.same_datum U.opening U.kinds U.owes_edge U.owes_datum U.may_ask U.comes_to U.number U.fixed U.stands (K.Place.opening seat.new) (K.Place.kinds seat.new) (K.Place.mine seat.new) (K.Place.number seat.new) unit.now last.new s.doing) }
+    requires driven { IsDrivenAt U.Inst.Instance U.Unit K.Place.Seat seat.old unit.now last.old Takes }
+    ensures driven { IfOk result (λ s. IsDrivenAt U.Inst.Instance U.Unit K.Place.Seat seat.new unit.now last.new s.doing) }
     ensures stuck { IfOk result (λ s. s.after ≡ IsStuck → MetStuck (K.Place.mine seat.new)) }
     ensures met { IfOk result (λ _. MetStuck (K.Place.mine seat.old) → MetStuck (K.Place.mine seat.new)) }
     ensures longer { IfOk result (λ _. (length (K.Place.mine seat.new) ≡ length (K.Place.mine seat.old) + 1) × (length (K.Place.mine seat.new) < 2 ^ 63)) }

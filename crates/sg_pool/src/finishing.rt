@@ -2,7 +2,7 @@
 
 ghost use Rattle.std.specs.Prelude.{◌≡◌, ◌≤◌, Some, IfOk, OnOk, All, [], length, map, vec_capacity, false, true};
 ghost use Rattle.sg_board.specs.Places.{counting};
-ghost use Rattle.sg_pool.specs.Pool.{IsOver, IsKept, has_ended};
+ghost use Rattle.sg_pool.specs.Pool.{IsOver, IsKeptJob, has_ended};
 
 use crate::job::{Job, step_job};
 use crate::site::Site;
@@ -106,7 +106,7 @@ pub(crate) fn into_seats<U: Unit, K: Desk<Inst = U::Inst, Outcome = U::Outcome>,
     requires going { All (λ j. j.failed ≡ false) jobs.items }
     requires room { (room.items ≡ []) × (length jobs.items ≤ vec_capacity room) }
     ensures seats { result.items ≡ map (λ j. j.seat) jobs.items }
-    ensures kept { All (IsKept U.Inst.wants U.Inst.same_datum U.opening U.kinds U.owes_edge U.owes_datum U.may_ask U.comes_to U.number U.fixed U.stands K.Place.number K.Place.mine K.Place.spent K.Place.opening K.Place.kinds K.sits N.desk N.start) jobs.items }
+    ensures kept { All (IsKeptJob U.Inst.Instance U.Unit K.Place.Seat K.sits N.desk N.start) jobs.items }
 {
     let mut seats = room;
     let mut left = jobs;

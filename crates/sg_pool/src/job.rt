@@ -33,7 +33,7 @@ impl<U: Unit, K: Desk<Inst = U::Inst, Outcome = U::Outcome>, N: Site<U, K>> Mode
 
 impl<U: Unit, K: Desk<Inst = U::Inst, Outcome = U::Outcome>, N: Site<U, K>> Job<U, K, N> {
     ghost use Rattle.std.specs.Prelude.{◌≡◌, IfOk, false};
-    ghost use Rattle.sg_pool.specs.Pool.{IsAtSite, IsKept, has_ended};
+    ghost use Rattle.sg_pool.specs.Pool.{IsAtSite, IsKeptJob, has_ended};
 
     /// A unit of the run, which is moved to the heap. Want of memory drops the unit.
     pub(crate) fn new(
@@ -80,7 +80,7 @@ impl<U: Unit, K: Desk<Inst = U::Inst, Outcome = U::Outcome>, N: Site<U, K>> Job<
     pub(crate) fn into_seat(self) -> K::Place
         requires going { self.failed ≡ false }
         ensures seat { result ≡ self.seat }
-        ensures kept { IsKept U.Inst.wants U.Inst.same_datum U.opening U.kinds U.owes_edge U.owes_datum U.may_ask U.comes_to U.number U.fixed U.stands K.Place.number K.Place.mine K.Place.spent K.Place.opening K.Place.kinds K.sits N.desk N.start self }
+        ensures kept { IsKeptJob U.Inst.Instance U.Unit K.Place.Seat K.sits N.desk N.start self }
     {
         Box::into_inner(self.running).into_seat()
     }

@@ -1,5 +1,5 @@
 ghost use Rattle.std.specs.Prelude.{◌≡◌, ◌≤◌, Some, IfOk, All, [], length, map, vec_capacity, false};
-ghost use Rattle.sg_pool.specs.Pool.{AreNumbered, HasPooled};
+ghost use Rattle.sg_pool.specs.Pool.{AreNumbered, ArePooled};
 
 use crate::finishing::{finish, into_seats};
 use crate::job::{Job, step_job};
@@ -46,7 +46,7 @@ where
     requires workers { 1 ≤ workers }
     requires numbered { AreNumbered K.Place.number units.items }
     requires seats { All (λ r. K.sits desk.now r.seat × (r.failed ≡ false)) units.items }
-    ensures { IfOk result (λ v. HasPooled U.Inst.wants U.Inst.same_datum U.opening U.kinds U.owes_edge U.owes_datum U.may_ask U.comes_to U.number U.fixed U.stands K.Place.number K.Place.mine K.Place.spent K.Place.opening K.Place.kinds K.sits desk.now units.items v.items) }
+    ensures { IfOk result (λ v. ArePooled U.Inst.Instance U.Unit K.Place.Seat K.sits desk.now units.items v.items) }
 {
     run_at::<U, K, G, Rt, Brand>(rt, alloc, desk, units, workers, gate)
 }
@@ -76,7 +76,7 @@ where
     requires start { N.start ≡ map (λ r. r.unit) units.items }
     requires numbered { AreNumbered K.Place.number units.items }
     requires seats { All (λ r. K.sits desk.now r.seat) units.items }
-    ensures { IfOk result (λ v. HasPooled U.Inst.wants U.Inst.same_datum U.opening U.kinds U.owes_edge U.owes_datum U.may_ask U.comes_to U.number U.fixed U.stands K.Place.number K.Place.mine K.Place.spent K.Place.opening K.Place.kinds K.sits desk.now units.items v.items) }
+    ensures { IfOk result (λ v. ArePooled U.Inst.Instance U.Unit K.Place.Seat K.sits desk.now units.items v.items) }
 {
     let room = Vec::with_capacity(alloc, units.len())?;
     let seats = Vec::with_capacity(alloc, units.len())?;

@@ -1,11 +1,9 @@
 ghost use Rattle.std.specs.Prelude.{◌≡◌, ◌⊎◌, ◌<◌, ◌+◌, ◌^◌, [], true, false, None, length, IfOk, OnErr};
 ghost use Rattle.sg_pool.specs.declared.after.After.TheVariants.{IsStuck};
 ghost use Rattle.sg_pool.specs.declared.doing.Doing.TheVariants.{Gives, HasEnded};
-ghost use Rattle.sg_pool.specs.Driving.{IsDriven, MetStuck, AddsOne, woken_of};
-ghost use Rattle.sg_unit.specs.Run.{run_of};
+ghost use Rattle.sg_pool.specs.Driving.{IsDrivenAt, MetStuck, AddsOne, is_live_at, woken_of};
 ghost use Rattle.sg_unit.specs.Served.{SomeStands, IsHonestBy};
 ghost use Rattle.sg_unit.specs.Trace.{told};
-ghost use Rattle.sg_unit.specs.Unit.{setting_of};
 
 use crate::after::After;
 use crate::doing::Doing;
@@ -103,8 +101,8 @@ impl<U: Unit, S: Seat<Inst = U::Inst, Outcome = U::Outcome>> Running<U, S> {
         ensures run { (S.opening result ≡ U.opening (U.fixed self.unit)) × (S.kinds result ≡ U.kinds (U.fixed self.unit)) }
         ensures stands { SomeStands U.number U.fixed U.stands (S.mine result) (S.number result) (U.fixed self.unit) }
         ensures honest { IsHonestBy U.Inst.wants U.Inst.same_datum U.opening U.kinds U.owes_edge U.owes_datum U.may_ask U.comes_to (S.mine result) (S.number result) (U.fixed self.unit) }
-        ensures ended { self.doing ≡ HasEnded → (run_of (setting_of U.Inst.wants U.Inst.same_datum (S.opening result) (S.kinds result)) (S.mine result)).live (S.number result) ≡ false }
-        ensures live { (self.doing ≡ HasEnded → ⊥) → (run_of (setting_of U.Inst.wants U.Inst.same_datum (S.opening result) (S.kinds result)) (S.mine result)).live (S.number result) ≡ true }
+        ensures ended { self.doing ≡ HasEnded → is_live_at U.Inst.Instance S.Seat result ≡ false }
+        ensures live { (self.doing ≡ HasEnded → ⊥) → is_live_at U.Inst.Instance S.Seat result ≡ true }
         ensures stuck { self.stuck ≡ true → MetStuck (S.mine result) }
     {
         self.seat
@@ -196,8 +194,8 @@ fn step_by<U: Unit, K: Desk<Inst = U::Inst, Outcome = U::Outcome>, Rt: Threads +
 ) -> Result<Stepped, AllocError>
     requires seat { K.sits desk.now seat.old × (K.Place.spent seat.old ≡ false) }
     requires goes_on { doing ≡ HasEnded → ⊥ }
-    requires driven { IsDriven U.Inst.wants U.Inst.same_datum U.opening U.kinds U.owes_edge U.owes_datum U.may_ask U.comes_to U.number U.fixed U.stands (K.Place.opening seat.old) (K.Place.kinds seat.old) (K.Place.mine seat.old) (K.Place.number seat.old) unit.old last.old doing }
-    ensures driven { IfOk result (λ s. IsDriven U.Inst.wants U.Inst.same_datum U.opening U.kinds U.owes_edge U.owes_datum U.may_ask U.comes_to U.number U.fixed U.stands (K.Place.opening seat.new) (K.Place.kinds seat.new) (K.Place.mine seat.new) (K.Place.number seat.new) unit.new last.new s.doing) }
+    requires driven { IsDrivenAt U.Inst.Instance U.Unit K.Place.Seat seat.old unit.old last.old doing }
+    ensures driven { IfOk result (λ s. IsDrivenAt U.Inst.Instance U.Unit K.Place.Seat seat.new unit.new last.new s.doing) }
     ensures stuck { IfOk result (λ s. s.after ≡ IsStuck → MetStuck (K.Place.mine seat.new)) }
     ensures met { IfOk result (λ _. MetStuck (K.Place.mine seat.old) → MetStuck (K.Place.mine seat.new)) }
     ensures longer { IfOk result (λ _. (length (K.Place.mine seat.new) ≡ length (K.Place.mine seat.old) + 1) × (length (K.Place.mine seat.new) < 2 ^ 63)) }

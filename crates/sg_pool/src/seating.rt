@@ -1,5 +1,5 @@
-ghost use Rattle.std.specs.Prelude.{◌≡◌, ◌≤◌, ℕ, Some, IfOk, All, [], length, map, slice_get, vec_capacity, false};
-ghost use Rattle.sg_pool.specs.Pool.{AreNumbered, IsNewAt};
+ghost use Rattle.std.specs.Prelude.{◌≡◌, ◌≤◌, IfOk, All, [], length, map, vec_capacity, false};
+ghost use Rattle.sg_pool.specs.Pool.{AreNumbered, AreNewlySeated};
 
 use crate::running::Running;
 use sg_unit::{Seat, Unit};
@@ -13,7 +13,7 @@ pub fn seat_all<U: Unit, S: Seat<Inst = U::Inst, Outcome = U::Outcome>>(
     seats: Vec<S>,
 ) -> Result<Vec<Running<U, S>>, AllocError>
     requires count { length seats.items ≡ length units.items }
-    requires new { (u : ℕ) (v : U) (s : S) → slice_get units.items u ≡ Some v → slice_get seats.items u ≡ Some s → IsNewAt U.number U.fixed U.opening U.kinds U.stands S.number S.mine S.spent S.opening S.kinds u v s }
+    requires new { AreNewlySeated U.Unit S.Seat units.items seats.items }
     ensures numbered { IfOk result (λ r. AreNumbered S.number r.items) }
     ensures going { IfOk result (λ r. All (λ x. x.failed ≡ false) r.items) }
     ensures units { IfOk result (λ r. map (λ x. x.unit) r.items ≡ units.items) }
@@ -30,7 +30,7 @@ fn seat_each<U: Unit, S: Seat<Inst = U::Inst, Outcome = U::Outcome>>(
     room: Vec<Running<U, S>>,
 ) -> Vec<Running<U, S>>
     requires count { length seats.items ≡ length units.items }
-    requires new { (u : ℕ) (v : U) (s : S) → slice_get units.items u ≡ Some v → slice_get seats.items u ≡ Some s → IsNewAt U.number U.fixed U.opening U.kinds U.stands S.number S.mine S.spent S.opening S.kinds u v s }
+    requires new { AreNewlySeated U.Unit S.Seat units.items seats.items }
     requires room { (room.items ≡ []) × (length units.items ≤ vec_capacity room) }
     ensures numbered { AreNumbered S.number result.items }
     ensures going { All (λ x. x.failed ≡ false) result.items }

@@ -1,12 +1,12 @@
 //! Four small units, run by several workers.
 
 ghost use Rattle.std.specs.Prelude.{◌≡◌, ◌<◌, ◌≤◌, ◌-◌, ◌^◌, ◌==◌, ◌++◌, ◌∷◌, [], All, true, false, length, IfOk, IfSome, OnErr};
-ghost use Rattle.sg_pool.specs.Example.{four, made_reply, made_after, HasMade};
+ghost use Rattle.sg_pool.specs.Example.{four, made_reply, made_after, GivesAny, HasMade};
 ghost use Rattle.sg_pool.specs.Pool.{AreNumbered};
 ghost use Rattle.sg_unit.specs.Example.{MakerStands};
 ghost use Rattle.sg_unit.specs.Own.{CanReply};
 ghost use Rattle.sg_unit.specs.Run.{run_of};
-ghost use Rattle.sg_unit.specs.Unit.{setting_of, GoesOn, GivesOwed};
+ghost use Rattle.sg_unit.specs.Unit.{setting_of, GoesOn};
 
 use crate::{Running, run_pool};
 use sg_base::{LabelSet, Scope};
@@ -63,7 +63,7 @@ impl Unit for Maker {
 
     fn next(&mut self, last: Option<Reply<Numbers>>) -> Result<Op<Numbers, u64>, AllocError>
         ensures gives { IfOk result (GoesOn (setting_of (λ p d. p == d) (λ a b. a == b) four []) self.old.number (MakerStands 7 self.old.given) (MakerStands 7 self.new.given) last) }
-        ensures owed { IfOk result (GivesOwed (setting_of (λ p d. p == d) (λ a b. a == b) four []) self.old.number (λ _ _ _ _. Unit {0}) (λ _ _ _. Unit {0}) (λ _ _. Unit {0}) (λ _ _. Unit {0}) (MakerStands 7 self.old.given) last) }
+        ensures owed { IfOk result (GivesAny (setting_of (λ p d. p == d) (λ a b. a == b) four []) self.old.number (MakerStands 7 self.old.given) last) }
         ensures falls { IfOk result (λ _. 3 - self.new.given < 3 - self.old.given) }
         ensures same { OnErr result (self.new ≡ self.old) }
         ensures number { self.new.number ≡ self.old.number }

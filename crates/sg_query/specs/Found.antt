@@ -1,7 +1,8 @@
 -- Paths that were found, by their places in a tree of paths.
-use Rattle.std.specs.Prelude.{◌<◌, List, length}
+use Rattle.std.specs.Prelude.{◌<◌, List, [], ◌∷◌, ◌++◌, length}
 use Rattle.std.specs.List.{AllByRecursion}
 use Rattle.sg_base.specs.declared.scope.Scope.{Scope}
+use Rattle.sg_base.specs.declared.step.Step.{Step}
 use Rattle.sg_base.specs.PathTree.{PathTreeOf, path_in}
 use Rattle.sg_query.specs.declared.found.Found.{Found}
 use Rattle.sg_query.specs.declared.found_at.FoundAt.{FoundAt}
@@ -10,6 +11,10 @@ use Rattle.sg_query.specs.declared.found_at.FoundAt.{FoundAt}
 pub record FoundTreeOf (D : Type 0) : Type 0 where
   pub start : Scope
   pub found : List (Found D)
+
+-- these found paths and one more behind them, by its steps and with this datum
+abbrev pub with_path : {D : Type 0} → FoundTreeOf D → List Step → D → FoundTreeOf D
+with_path t ps d = record { start = t.start; found = t.found ++ record { path = record { start = t.start; steps = ps }; datum = d } ∷ [] }
 
 -- the path at a place of a tree, with its datum
 abbrev pub found_in : {D : Type 0} → PathTreeOf → FoundAt D → Found D

@@ -1,5 +1,5 @@
 -- Which paths of a list others shadow, for the code that leaves these out and for it alone.
-use Rattle.std.specs.Prelude.{List, [], ◌∷◌, Bool, if◌then◌else◌, MatchBool}
+use Rattle.std.specs.Prelude.{◌≡◌, List, [], ◌∷◌, ◌++◌, Bool, if◌then◌else◌, MatchBool}
 use Rattle.sg_base.specs.declared.mark.Mark.{Mark}
 use Rattle.sg_query.specs.declared.found.Found.{Found}
 use Rattle.sg_query.specs.Shadow.{IsShadowed}
@@ -11,6 +11,10 @@ AreMarked same order all [] (b ∷ marks) = ⊥
 AreMarked same order all (f ∷ fs) [] = ⊥
 AreMarked same order all (f ∷ fs) (b ∷ marks) =
     MatchBool b (IsShadowed same order all f) (IsShadowed same order all f → ⊥) × AreMarked same order all fs marks
+
+-- the new marks are the old ones and a mark for each path of the list, whether another of them shadows it
+abbrev pub MarksOn : {D : Type 0} → (D → D → Bool) → (Mark → Mark → Bool) → List (Found D) → List Bool → List Bool → Type 0
+MarksOn same order all old new = (more : List Bool) × (new ≡ old ++ more) × AreMarked same order all all more
 
 -- the things that have no mark
 abbrev pub unmarked : {X : Type 0} → List X → List Bool → List X

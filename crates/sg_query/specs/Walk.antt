@@ -1,10 +1,10 @@
 -- The paths of a graph, one step after another, and what a walk keeps of them.
-use Rattle.std.specs.Prelude.{◌≡◌, ℕ, zero, suc, ◌<◌, ◌≤◌, List, [], ◌∷◌, ◌++◌, Bool, if◌then◌else◌, map, ◌⊎◌, IsTrue, length, take, MatchBool, ◌↔◌}
+use Rattle.std.specs.Prelude.{◌≡◌, ℕ, zero, suc, ◌<◌, ◌≤◌, List, [], ◌∷◌, ◌++◌, Bool, if◌then◌else◌, map, ◌⊎◌, IsTrue, length, take, Option, MatchBool, MatchOption, ◌↔◌}
 use Rattle.std.specs.List.{AllByRecursion, Contains, flat_map}
 use Rattle.sg_base.specs.declared.scope.Scope.{Scope}
 use Rattle.sg_base.specs.declared.step.Step.{Step}
 use Rattle.sg_base.specs.Graph.{GraphOf, HasDatum, IsPath, row_of}
-use Rattle.sg_base.specs.List.{IsDistinct}
+use Rattle.sg_base.specs.List.{IsDistinct, MoreThan}
 use Rattle.sg_base.specs.Path.{end_of, word_of}
 use Rattle.sg_base.specs.Label.{Word}
 use Rattle.sg_expr.specs.Tree.{ExprOf, expr_of}
@@ -12,6 +12,8 @@ use Rattle.sg_expr.specs.Word.{In, IsContinuable}
 use Rattle.sg_query.specs.declared.found.Found.{Found}
 use Rattle.sg_query.specs.declared.going.Going.{Going}
 use Rattle.sg_query.specs.declared.walk.Seen.{Seen}
+use Rattle.sg_query.specs.declared.walk.Walk.{Walk}
+use Rattle.sg_query.specs.Answer.{most_paths}
 use Rattle.sg_query.specs.Steps.{is_fresh, if_any}
 
 -- all labels below a number
@@ -98,3 +100,28 @@ GoesOnFrom g e start ps = IsPath g start ps × IsContinuable e (word_of ps)
 pub record AreArrived {D : Type 0} (g : GraphOf D) (e : ExprOf) (wants : D → Bool) (start : Scope) (fs : List (Found D)) : Type 0 where
   pub once : IsDistinct (map (λ f. f.path) fs)
   pub arrived : (f : Found D) → (Contains fs f) ↔ ((f.path.start ≡ start) × IsArrived g e wants start f.path.steps f.datum)
+
+-- where the walk stands on some steps, it visits these paths in its graph, by its expression and the data that its predicate wants
+abbrev pub WalkVisits : {I D P : Type 0} → (P → D → Bool) → Walk I D P → List Step → List (List Step) → Seen D → Seen D → Type 0
+WalkVisits wants w at pss old new = Visits w.graph.now (expr_of w.expr.now) (wants w.pred.now) w.start at pss old new
+
+-- the walk visits all of these paths, or so many that more go on than there is room for
+abbrev pub WalkVisitsWithin : {I D P : Type 0} → (P → D → Bool) → Walk I D P → List Step → List (List Step) → ℕ → Seen D → Seen D → Bool → Type 0
+WalkVisitsWithin wants w at pss room old new all = VisitsWithin w.graph.now (expr_of w.expr.now) (wants w.pred.now) w.start at pss room old new all
+
+-- the walk finds the path with these steps and the wanted datum at its end
+abbrev pub WalkFinds : {I D P : Type 0} → (P → D → Bool) → Walk I D P → List Step → Found D → Type 0
+WalkFinds wants w ps f = IsFound w.graph.now (expr_of w.expr.now) (wants w.pred.now) w.start ps f
+
+-- the walk finds the path with these steps, or, where none is given, they reach no wanted datum
+abbrev pub WalkFindsAny : {I D P : Type 0} → (P → D → Bool) → Walk I D P → List Step → Option (Found D) → Type 0
+WalkFindsAny {I} {D} wants w ps o =
+    MatchOption o ((d : D) → IsReached w.graph.now (expr_of w.expr.now) (wants w.pred.now) w.start ps d → ⊥) (WalkFinds wants w ps)
+
+-- more paths of the walk go on than an answer looks at
+abbrev pub WalkGoesTooFar : {I D P : Type 0} → Walk I D P → Type 0
+WalkGoesTooFar w = MoreThan most_paths (GoesOnFrom w.graph.now (expr_of w.expr.now) w.start)
+
+-- no more paths of the walk go on than an answer looks at, and the list holds each one that arrives
+abbrev pub WalkArrives : {I D P : Type 0} → (P → D → Bool) → Walk I D P → List (Found D) → Type 0
+WalkArrives wants w fs = (WalkGoesTooFar w → ⊥) × AreArrived w.graph.now (expr_of w.expr.now) (wants w.pred.now) w.start fs

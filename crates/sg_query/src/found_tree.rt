@@ -1,5 +1,5 @@
-ghost use Rattle.std.specs.Prelude.{◌≡◌, [], ◌∷◌, ◌++◌, map, OnOk, OnErr};
-ghost use Rattle.sg_query.specs.Found.{found_in, AreThere};
+ghost use Rattle.std.specs.Prelude.{◌≡◌, [], map, OnOk, OnErr};
+ghost use Rattle.sg_query.specs.Found.{found_in, with_path, AreThere};
 
 use crate::found_at::FoundAt;
 use sg_base::{PathTree, Scope, Step};
@@ -55,7 +55,7 @@ impl<D: Drop> FoundTree<D> {
 
     /// Adds a path by its steps, which shares no front with another. Takes the time of the steps.
     pub fn add(&mut self, steps: &[Step], datum: D) -> Result<(), AllocError>
-        ensures ok { OnOk result (self.new ≡ record { start = self.old.start; found = self.old.found ++ record { path = record { start = self.old.start; steps = steps.now }; datum = datum } ∷ [] }) }
+        ensures ok { OnOk result (self.new ≡ with_path self.old steps.now datum) }
         ensures err { OnErr result (self.new ≡ self.old) }
     {
         let mut place = self.paths.first();

@@ -1,4 +1,4 @@
-ghost use Rattle.std.specs.Prelude.{◌≡◌, ◌≢◌, ◌↔◌, ◌<◌, ◌≤◌, ◌++◌, List, Bool, IsTrue, IsFalse, IfOk, OnOk, length, map, take, drop};
+ghost use Rattle.std.specs.Prelude.{◌≡◌, ◌≢◌, ◌↔◌, ◌<◌, ◌≤◌, IsTrue, IsFalse, IfOk, OnOk, length, map, take, drop};
 ghost use Rattle.std.specs.List.{Contains};
 ghost use Rattle.std.specs.List.Sorted.{IsNonDecreasingBy, IsPermutation};
 ghost use Rattle.sg_base.specs.List.{IsDistinct, IsRising};
@@ -7,7 +7,7 @@ ghost use Rattle.sg_order.specs.Order.{precedes};
 ghost use Rattle.sg_query.specs.declared.found_at.FoundAt.{FoundAt as FoundAtOf};
 ghost use Rattle.sg_query.specs.Answer.{found_cmp};
 ghost use Rattle.sg_query.specs.Found.{found_in, AreThere};
-ghost use Rattle.sg_query.specs.Marks.{AreMarked, unmarked};
+ghost use Rattle.sg_query.specs.Marks.{AreMarked, MarksOn, unmarked};
 ghost use Rattle.sg_query.specs.Shadow.{IsShadowed, AreUnshadowed};
 
 use crate::found_at::FoundAt;
@@ -144,7 +144,7 @@ fn mark_run<I: Instance>(
     marks: &mut Vec<bool>,
 ) -> Result<(), AllocError>
     requires { AreThere paths.now run.now }
-    ensures { OnOk result ((more : List Bool) × (marks.new.items ≡ marks.old.items ++ more) × AreMarked I.same_datum (precedes order.now) (map (found_in paths.now) run.now) (map (found_in paths.now) run.now) more) }
+    ensures { OnOk result (MarksOn I.same_datum (precedes order.now) (map (found_in paths.now) run.now) marks.old.items marks.new.items) }
 {
     for found in run {
         let shadowed = is_shadowed::<I>(order, paths, run, found);

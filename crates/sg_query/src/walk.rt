@@ -1,10 +1,8 @@
 ghost use Rattle.std.specs.Prelude.{◌≡◌, ◌≤◌, [], ◌∷◌, ◌++◌, length, ◌↔◌, IsTrue, IfOk, OnOk, MatchOption};
 ghost use Rattle.sg_base.specs.Graph.{IsGraph};
-ghost use Rattle.sg_base.specs.List.{MoreThan};
 ghost use Rattle.sg_expr.specs.Tree.{expr_of};
-ghost use Rattle.sg_query.specs.Answer.{most_paths};
 ghost use Rattle.sg_query.specs.Steps.{if_any};
-ghost use Rattle.sg_query.specs.Walk.{IsRest, Visits, VisitsWithin, GathersOn, IsReached, IsFound, AreArrived, GoesOnFrom, into_scope, into_row, one_more};
+ghost use Rattle.sg_query.specs.Walk.{IsRest, GathersOn, into_scope, into_row, one_more, WalkVisits, WalkVisitsWithin, WalkFinds, WalkFindsAny, WalkArrives, WalkGoesTooFar};
 
 use crate::found::Found;
 use crate::going::Going;
@@ -38,7 +36,7 @@ impl<I: Instance> Walk<'_, I> {
     /// Walks depth first on one list of steps, so that a path costs its last step and not its length.
     pub fn arrived(&self) -> Result<Option<Vec<Found<I::Datum>>>, AllocError>
         requires { IsGraph self.now.graph.now }
-        ensures { IfOk result (λ o. MatchOption o (MoreThan most_paths (GoesOnFrom self.now.graph.now (expr_of self.now.expr.now) self.now.start)) (λ v. (MoreThan most_paths (GoesOnFrom self.now.graph.now (expr_of self.now.expr.now) self.now.start) → ⊥) × AreArrived self.now.graph.now (expr_of self.now.expr.now) (I.wants self.now.pred.now) self.now.start v.items)) }
+        ensures { IfOk result (λ o. MatchOption o (WalkGoesTooFar self.now) (λ v. WalkArrives I.wants self.now v.items)) }
     {
         let mut steps = Steps::none(self.alloc);
         let mut seen = Seen {
@@ -68,7 +66,7 @@ impl<I: Instance> Walk<'_, I> {
     ) -> Result<bool, AllocError>
         requires fits { length seen.old.going.items ≤ room }
         requires rest { IsRest (expr_of self.now.expr.now) steps.now (expr_of rest) }
-        ensures { IfOk result (VisitsWithin self.now.graph.now (expr_of self.now.expr.now) (I.wants self.now.pred.now) self.now.start steps.now (one_more self.now.graph.now self.now.start steps.now) room seen.old seen.new) }
+        ensures { IfOk result (WalkVisitsWithin I.wants self.now steps.now (one_more self.now.graph.now self.now.start steps.now) room seen.old seen.new) }
     {
         self.visit_one_more(steps, &rest, room, seen)
     }
@@ -83,7 +81,7 @@ impl<I: Instance> Walk<'_, I> {
     ) -> Result<bool, AllocError>
         requires fits { length seen.old.going.items ≤ room }
         requires rest { IsRest (expr_of self.now.expr.now) steps.now (expr_of rest.now) }
-        ensures { IfOk result (VisitsWithin self.now.graph.now (expr_of self.now.expr.now) (I.wants self.now.pred.now) self.now.start steps.now (one_more self.now.graph.now self.now.start steps.now) room seen.old seen.new) }
+        ensures { IfOk result (WalkVisitsWithin I.wants self.now steps.now (one_more self.now.graph.now self.now.start steps.now) room seen.old seen.new) }
     {
         for number in 0..16 {
             if !self.visit_row(steps, rest, Label::new(number), room, seen)? {
@@ -104,7 +102,7 @@ impl<I: Instance> Walk<'_, I> {
     ) -> Result<bool, AllocError>
         requires fits { length seen.old.going.items ≤ room }
         requires rest { IsRest (expr_of self.now.expr.now) steps.now (expr_of rest.now) }
-        ensures { IfOk result (VisitsWithin self.now.graph.now (expr_of self.now.expr.now) (I.wants self.now.pred.now) self.now.start steps.now (into_row self.now.graph.now self.now.start steps.now label) room seen.old seen.new) }
+        ensures { IfOk result (WalkVisitsWithin I.wants self.now steps.now (into_row self.now.graph.now self.now.start steps.now label) room seen.old seen.new) }
     {
         for to in self.graph.edges_of(steps.end(self.start), label) {
             self.visit_scope(steps, rest, Step { label, to: *to }, seen)?;
@@ -124,7 +122,7 @@ impl<I: Instance> Walk<'_, I> {
         seen: &mut Seen<I::Datum>,
     ) -> Result<(), AllocError>
         requires { IsRest (expr_of self.now.expr.now) steps.now (expr_of rest.now) }
-        ensures { OnOk result (Visits self.now.graph.now (expr_of self.now.expr.now) (I.wants self.now.pred.now) self.now.start steps.now (into_scope self.now.start steps.now step.label step.to) seen.old seen.new) }
+        ensures { OnOk result (WalkVisits I.wants self.now steps.now (into_scope self.now.start steps.now step.label step.to) seen.old seen.new) }
     {
         if !steps.is_fresh(self.start, step.to) {
             return Ok(());
@@ -144,7 +142,7 @@ impl<I: Instance> Walk<'_, I> {
         seen: &mut Seen<I::Datum>,
     ) -> Result<(), AllocError>
         requires { IsRest (expr_of self.now.expr.now) (steps.now ++ if_any last) (expr_of rest) }
-        ensures { OnOk result (Visits self.now.graph.now (expr_of self.now.expr.now) (I.wants self.now.pred.now) self.now.start steps.now ((steps.now ++ if_any last) ∷ []) seen.old seen.new) }
+        ensures { OnOk result (WalkVisits I.wants self.now steps.now ((steps.now ++ if_any last) ∷ []) seen.old seen.new) }
     {
         self.visit_end(steps, &last, &rest, seen)?;
         if rest.goes_on() {
@@ -163,7 +161,7 @@ impl<I: Instance> Walk<'_, I> {
         seen: &mut Seen<I::Datum>,
     ) -> Result<(), AllocError>
         requires { IsRest (expr_of self.now.expr.now) (steps.now ++ if_any last.now) (expr_of rest.now) }
-        ensures found { OnOk result (GathersOn (IsFound self.now.graph.now (expr_of self.now.expr.now) (I.wants self.now.pred.now) self.now.start) ((steps.now ++ if_any last.now) ∷ []) seen.old.found.items seen.new.found.items) }
+        ensures found { OnOk result (GathersOn (WalkFinds I.wants self.now) ((steps.now ++ if_any last.now) ∷ []) seen.old.found.items seen.new.found.items) }
         ensures going { seen.new.going ≡ seen.old.going }
     {
         if let Some(found) = self.found_at(steps, last, rest)? {
@@ -180,7 +178,7 @@ impl<I: Instance> Walk<'_, I> {
         rest: &Expr,
     ) -> Result<Option<Found<I::Datum>>, AllocError>
         requires { IsRest (expr_of self.now.expr.now) (steps.now ++ if_any last.now) (expr_of rest.now) }
-        ensures { IfOk result (λ o. MatchOption o ((d : I.Datum) → IsReached self.now.graph.now (expr_of self.now.expr.now) (I.wants self.now.pred.now) self.now.start (steps.now ++ if_any last.now) d → ⊥) (IsFound self.now.graph.now (expr_of self.now.expr.now) (I.wants self.now.pred.now) self.now.start (steps.now ++ if_any last.now))) }
+        ensures { IfOk result (WalkFindsAny I.wants self.now (steps.now ++ if_any last.now)) }
     {
         if !rest.nullable() {
             return Ok(None);

@@ -3,3 +3,4 @@ pub mod Following
 pub mod Law
 pub mod Owing
 pub mod Script
+pub mod Standing

@@ -1,7 +1,8 @@
-ghost use Rattle.std.specs.Prelude.{◌≡◌, ◌<◌, ◌↔◌, [], false, Option, Some, None, List, length, IfOk, OnErr};
+ghost use Rattle.std.specs.Prelude.{◌≡◌, ◌<◌, ◌↔◌, [], false, Option, Some, None, List, IfOk, OnErr};
 ghost use Rattle.sg_query.specs.declared.query.Query.{Query as QueryOf};
-ghost use Rattle.sg_script.specs.Following.{op_of, FollowsPlan, steps_left};
+ghost use Rattle.sg_script.specs.Following.{op_of, FollowsPlan};
 ghost use Rattle.sg_script.specs.Script.{IsSound};
+ghost use Rattle.sg_script.specs.Standing.{Follows, operations_left};
 ghost use Rattle.sg_unit.specs.declared.op.Op.TheVariants.{Ask};
 ghost use Rattle.sg_unit.specs.Trace.{Past};
 
@@ -79,8 +80,8 @@ impl<S: Script> Follower<S> {
     fn read_on(&mut self) -> Result<Op<S::Inst, S::Outcome>, AllocError>
         requires ready { S.is_ready self.old.script }
         requires idle { (self.old.pending ≡ []) × (self.old.asked ≡ None) × (self.old.ended ≡ false) }
-        ensures goes { (past : Past S.Inst S.Outcome S.Inst.Datum S.Inst.Pred) → FollowsPlan (S.plan self.old.script) (S.reply self.old.script) self.old.asked self.old.pending self.old.stage self.old.ended past None → IfOk result (λ op. FollowsPlan (S.plan self.new.script) (S.reply self.new.script) self.new.asked self.new.pending self.new.stage self.new.ended past (Some op)) }
-        ensures falls { IfOk result (λ _. steps_left (S.plan self.new.script) (S.reply self.new.script) self.new.asked (length self.new.pending) self.new.stage self.new.ended < steps_left (S.plan self.old.script) (S.reply self.old.script) self.old.asked (length self.old.pending) self.old.stage self.old.ended) }
+        ensures goes { (past : Past S.Inst S.Outcome S.Inst.Datum S.Inst.Pred) → Follows S.Script self.old past None → IfOk result (λ op. Follows S.Script self.new past (Some op)) }
+        ensures falls { IfOk result (λ _. operations_left S.Script self.new < operations_left S.Script self.old) }
         ensures script { self.new.script ≡ self.old.script }
         ensures same { OnErr result (self.new ≡ self.old) }
     {
@@ -116,9 +117,9 @@ impl<S: Script> Follower<S> {
     /// The next operation of a unit that was handed all replies.
     fn step(&mut self) -> Result<Op<S::Inst, S::Outcome>, AllocError>
         requires ready { S.is_ready self.old.script }
-        requires stands { (past : Past S.Inst S.Outcome S.Inst.Datum S.Inst.Pred) × FollowsPlan (S.plan self.old.script) (S.reply self.old.script) self.old.asked self.old.pending self.old.stage self.old.ended past None }
-        ensures goes { (past : Past S.Inst S.Outcome S.Inst.Datum S.Inst.Pred) → FollowsPlan (S.plan self.old.script) (S.reply self.old.script) self.old.asked self.old.pending self.old.stage self.old.ended past None → IfOk result (λ op. FollowsPlan (S.plan self.new.script) (S.reply self.new.script) self.new.asked self.new.pending self.new.stage self.new.ended past (Some op)) }
-        ensures falls { IfOk result (λ _. steps_left (S.plan self.new.script) (S.reply self.new.script) self.new.asked (length self.new.pending) self.new.stage self.new.ended < steps_left (S.plan self.old.script) (S.reply self.old.script) self.old.asked (length self.old.pending) self.old.stage self.old.ended) }
+        requires stands { (past : Past S.Inst S.Outcome S.Inst.Datum S.Inst.Pred) × Follows S.Script self.old past None }
+        ensures goes { (past : Past S.Inst S.Outcome S.Inst.Datum S.Inst.Pred) → Follows S.Script self.old past None → IfOk result (λ op. Follows S.Script self.new past (Some op)) }
+        ensures falls { IfOk result (λ _. operations_left S.Script self.new < operations_left S.Script self.old) }
         ensures script { self.new.script ≡ self.old.script }
         ensures same { OnErr result (self.new ≡ self.old) }
     {
@@ -134,7 +135,8 @@ impl<S: Script> Unit for Follower<S> {
     ghost use Rattle.sg_script.specs.Following.{FollowsPlan, steps_left};
     ghost use Rattle.sg_script.specs.Owing.{OwesEdge, OwesDatum, AsksIn, ComesTo};
     ghost use Rattle.sg_script.specs.Script.{Plan, setting_by};
-    ghost use Rattle.sg_unit.specs.Unit.{CanBeHanded, GoesOn, GivesOwed};
+    ghost use Rattle.sg_script.specs.Standing.{FollowsReady, operations_left, GoesOnByPlan, GivesOwedByPlan};
+    ghost use Rattle.sg_unit.specs.Unit.{CanBeHanded};
     ghost use Rattle.std.specs.Prelude.{◌≡◌, ◌<◌, IfOk, OnErr};
 
     type Inst = S::Inst;
@@ -168,10 +170,10 @@ impl<S: Script> Unit for Follower<S> {
     }
 
     fn next(&mut self, last: Option<Reply<S::Inst>>) -> Result<Op<S::Inst, S::Outcome>, AllocError>
-        requires { CanBeHanded (setting_by S.Inst.wants S.Inst.same_datum (S.plan self.old.script)) (S.plan self.old.script).unit (λ past last. FollowsPlan (S.plan self.old.script) (S.reply self.old.script) self.old.asked self.old.pending self.old.stage self.old.ended past last × S.is_ready self.old.script) last }
-        ensures gives { IfOk result (GoesOn (setting_by S.Inst.wants S.Inst.same_datum (S.plan self.old.script)) (S.plan self.old.script).unit (λ past last. FollowsPlan (S.plan self.old.script) (S.reply self.old.script) self.old.asked self.old.pending self.old.stage self.old.ended past last × S.is_ready self.old.script) (λ past last. FollowsPlan (S.plan self.new.script) (S.reply self.new.script) self.new.asked self.new.pending self.new.stage self.new.ended past last × S.is_ready self.new.script) last) }
-        ensures owed { IfOk result (GivesOwed (setting_by S.Inst.wants S.Inst.same_datum (S.plan self.old.script)) (S.plan self.old.script).unit (OwesEdge (setting_by S.Inst.wants S.Inst.same_datum (S.plan self.old.script)) (S.plan self.old.script).stages) (OwesDatum (setting_by S.Inst.wants S.Inst.same_datum (S.plan self.old.script)) (S.plan self.old.script).stages) (AsksIn (setting_by S.Inst.wants S.Inst.same_datum (S.plan self.old.script)) (S.plan self.old.script).stages (S.plan self.old.script).ending) (ComesTo (setting_by S.Inst.wants S.Inst.same_datum (S.plan self.old.script)) (S.plan self.old.script).ending) (λ past last. FollowsPlan (S.plan self.old.script) (S.reply self.old.script) self.old.asked self.old.pending self.old.stage self.old.ended past last × S.is_ready self.old.script) last) }
-        ensures falls { IfOk result (λ _. steps_left (S.plan self.new.script) (S.reply self.new.script) self.new.asked (length self.new.pending) self.new.stage self.new.ended < steps_left (S.plan self.old.script) (S.reply self.old.script) self.old.asked (length self.old.pending) self.old.stage self.old.ended) }
+        requires { CanBeHanded (setting_by S.Inst.wants S.Inst.same_datum (S.plan self.old.script)) (S.plan self.old.script).unit (FollowsReady S.Script self.old) last }
+        ensures gives { IfOk result (GoesOnByPlan S.Inst.wants S.Inst.same_datum (S.plan self.old.script) (FollowsReady S.Script self.old) (FollowsReady S.Script self.new) last) }
+        ensures owed { IfOk result (GivesOwedByPlan S.Inst.wants S.Inst.same_datum (S.plan self.old.script) (FollowsReady S.Script self.old) last) }
+        ensures falls { IfOk result (λ _. operations_left S.Script self.new < operations_left S.Script self.old) }
         ensures same { OnErr result (self.new ≡ self.old) }
         ensures fixed { (S.plan self.new.script ≡ S.plan self.old.script) × ((S.plan self.new.script).unit ≡ (S.plan self.old.script).unit) }
     {

@@ -1,5 +1,5 @@
 -- Small units of two, each of which holds a row, and may ask along the row of the other.
-use Rattle.std.specs.Prelude.{◌≡◌, ℕ, zero, suc, ◌<◌, List, [], ◌∷◌, Bool, true, false, Option, Some, None, length}
+use Rattle.std.specs.Prelude.{◌≡◌, ℕ, zero, suc, ◌<◌, List, [], ◌∷◌, ◌==◌, Bool, true, false, Option, Some, None, length}
 use Rattle.sg_base.specs.declared.scope.Scope.{Scope}
 use Rattle.sg_query.specs.declared.query.Query.{Query}
 use Rattle.sg_query.specs.Query.{KindOf}
@@ -8,7 +8,9 @@ use Rattle.sg_state.specs.Opening.{nobody}
 use Rattle.sg_unit.specs.declared.op.Op.{Op}
 use Rattle.sg_unit.specs.declared.op.Op.TheVariants.{AddEdge, CloseRow, Ask, End}
 use Rattle.sg_unit.specs.declared.reply.Reply.{Reply}
+use Rattle.sg_unit.specs.Run.{Setting}
 use Rattle.sg_unit.specs.Trace.{Past}
+use Rattle.sg_unit.specs.Unit.{setting_of, CanBeHanded, GoesOn, GivesOwed}
 
 -- the two scopes
 abbrev pub first : Scope
@@ -82,3 +84,25 @@ IsWorkersEdge b false s l t = (s ≡ own_scope b) × (l ≡ 0) × (t ≡ other_s
 abbrev pub IsWorkersQuery : {P : Type 0} → Bool → Bool → P → Query P → Type 0
 IsWorkersQuery b true p q = q ≡ across b p
 IsWorkersQuery b false p q = ⊥
+
+-- ---- such a unit where data are numbers, and so are predicates, each of which wants the number that it equals; it asks for 5, and ends with 7
+
+-- the setting that opens so
+abbrev pub crossed_numbers : List KindOf → Setting ℕ ℕ
+crossed_numbers ks = setting_of (λ p d. p == d) (λ a b. a == b) crossed ks
+
+-- the unit stands for a trace after which it can be handed this
+abbrev pub WorkerCanBeHanded : {I : Type 0} → List KindOf → Bool → Bool → ℕ → Option (Reply I ℕ ℕ) → Type 0
+WorkerCanBeHanded ks b a n last = CanBeHanded {R = ℕ} (crossed_numbers ks) (number_of b) (WorkerStands ks b a 5 7 n) last
+
+-- the old unit goes on to the new one with such an operation
+abbrev pub WorkerSteps : {I : Type 0} → List KindOf → Bool → Bool → ℕ → List KindOf → Bool → Bool → ℕ → Option (Reply I ℕ ℕ) → Op I ℕ ℕ ℕ → Type 0
+WorkerSteps ks b a n ks' b' a' n' = GoesOn (crossed_numbers ks) (number_of b) (WorkerStands ks b a 5 7 n) (WorkerStands ks' b' a' 5 7 n')
+
+-- what the unit gave by now is what it owes
+abbrev pub WorkerGivesOwed : {I : Type 0} → List KindOf → Bool → Bool → ℕ → Option (Reply I ℕ ℕ) → Op I ℕ ℕ ℕ → Type 0
+WorkerGivesOwed ks b a n = GivesOwed (crossed_numbers ks) (number_of b) (λ _. IsWorkersEdge b a) (λ _ _ _. ⊥) (λ _ q. IsWorkersQuery b a 5 q) (λ _ x. x ≡ 7) (WorkerStands ks b a 5 7 n)
+
+-- the old unit and the new one have one fixed part and one number
+abbrev pub WorkerStays : List KindOf → Bool → Bool → List KindOf → Bool → Bool → Type 0
+WorkerStays ks b a ks' b' a' = (fixed_part b' a' ks' ≡ fixed_part b a ks) × (number_of b' ≡ number_of b)

@@ -1,5 +1,6 @@
 -- Units that are served one at a time.
-use Rattle.std.specs.Prelude.{◌≡◌, ℕ, zero, suc, ◌+◌, List, [], ◌∷◌, ◌++◌, Bool, Option, Some, ◌⊎◌, length, slice_get}
+use Rattle.std.specs.Prelude.{◌≡◌, ℕ, zero, suc, ◌+◌, List, [], ◌∷◌, ◌++◌, Bool, Option, Some, Result, IfOk, MatchOption, ◌⊎◌, length, slice_get}
+use Rattle.sg_base.specs.declared.instance.Instance.{Ghosts as InstanceOf}
 use Rattle.sg_base.specs.declared.scope.Scope.{Scope}
 use Rattle.sg_base.specs.Graph.{GraphOf}
 use Rattle.sg_query.specs.declared.query.Query.{Query}
@@ -8,9 +9,10 @@ use Rattle.sg_state.specs.Held.{HeldOf}
 use Rattle.sg_unit.specs.declared.entry.Entry.{Entry}
 use Rattle.sg_unit.specs.declared.op.Op.{Op}
 use Rattle.sg_unit.specs.declared.reply.Reply.{Reply}
+use Rattle.sg_unit.specs.declared.unit.Unit.{Ghosts as UnitOf}
 use Rattle.sg_unit.specs.Bound.{weight}
 use Rattle.sg_unit.specs.Own.{own}
-use Rattle.sg_unit.specs.Run.{Setting, RunOf, after, run_from}
+use Rattle.sg_unit.specs.Run.{Setting, RunOf, after, run_from, NoAsk}
 use Rattle.sg_unit.specs.Served.{IsServed}
 use Rattle.sg_unit.specs.Trace.{Past}
 use Rattle.sg_core.specs.Core.{CoreOf, IsRunnable, IsLeastRunnable, setting, run}
@@ -27,7 +29,19 @@ module _ {I R D P V F : Type 0} (wants : P → D → Bool) (same : D → D → B
     pub named : (u : ℕ) (w : V) → slice_get start u ≡ Some w → (opening_at (fixed w) ≡ c.opening) × (kinds_at (fixed w) ≡ c.kinds)
     pub each : (u : ℕ) (w v : V) (y : Option (Reply I D P)) → slice_get start u ≡ Some w → slice_get units u ≡ Some v → slice_get replies u ≡ Some y → IsServed wants same opening_at kinds_at edges data_at asks result number fixed stands (own u c.log) u (fixed w) v y
 
+-- the same of units, by the members of their type and of its instance
+abbrev pub IsTeamOf : {V I R D P : Type 0} → InstanceOf I D P → UnitOf V I R D P → List V → List V → List (Option (Reply I D P)) → CoreOf I R D P → Type 0
+IsTeamOf inst unit = IsTeam inst.wants inst.same_datum unit.opening unit.kinds unit.owes_edge unit.owes_datum unit.may_ask unit.comes_to unit.number unit.fixed unit.stands
+
+-- if the old ones are so, the new ones are so where the result is well
+abbrev pub StaysTeam : {V I R D P A E : Type 0} → InstanceOf I D P → UnitOf V I R D P → List V → List V → List (Option (Reply I D P)) → CoreOf I R D P → Result A E → List V → List (Option (Reply I D P)) → CoreOf I R D P → Type 0
+StaysTeam inst unit start units replies c result units' replies' c' = IsTeamOf inst unit start units replies c → IfOk result (λ _. IsTeamOf inst unit start units' replies' c')
+
 -- ---- which unit steps when
+
+-- no unit runs, or this is the least one that runs, and it asks nothing
+abbrev pub IsNextIdle : {D P : Type 0} → RunOf D P → Option ℕ → Type 0
+IsNextIdle r next = MatchOption next ((u : ℕ) → IsRunnable r u → ⊥) (λ u. IsLeastRunnable r u × NoAsk r u)
 
 -- each choice in turn makes one entry of its unit where that runs, and is passed by otherwise; and these are all entries
 abbrev pub AreChosen : {I R D P : Type 0} → RunOf D P → List ℕ → List (Entry I R D P) → Type 0

@@ -2,7 +2,7 @@
 
 ghost use Rattle.std.specs.Prelude.{◌<◌, List, IfOk};
 ghost use Rattle.sg_core.specs.Core.{IsCore, IsRunnable, run};
-ghost use Rattle.sg_serial.specs.Serial.{IsTeam, GoesOnFrom, AddsEntryOf, sum_of};
+ghost use Rattle.sg_serial.specs.Serial.{IsTeamOf, StaysTeam, GoesOnFrom, AddsEntryOf, sum_of};
 ghost use Rattle.sg_unit.specs.Run.{NoAsk};
 
 use sg_base::Instance;
@@ -20,8 +20,8 @@ pub fn give<U: Unit>(
     requires core { IsCore U.Inst.wants U.Inst.same_datum core.old }
     requires runs { IsRunnable (run U.Inst.wants U.Inst.same_datum core.old) unit }
     requires idle { NoAsk (run U.Inst.wants U.Inst.same_datum core.old) unit }
-    requires team { (start : List U) × IsTeam U.Inst.wants U.Inst.same_datum U.opening U.kinds U.owes_edge U.owes_datum U.may_ask U.comes_to U.number U.fixed U.stands start units.old.items replies.old.items core.old }
-    ensures team { (start : List U) → IsTeam U.Inst.wants U.Inst.same_datum U.opening U.kinds U.owes_edge U.owes_datum U.may_ask U.comes_to U.number U.fixed U.stands start units.old.items replies.old.items core.old → IfOk result (λ _. IsTeam U.Inst.wants U.Inst.same_datum U.opening U.kinds U.owes_edge U.owes_datum U.may_ask U.comes_to U.number U.fixed U.stands start units.new.items replies.new.items core.new) }
+    requires team { (start : List U) × IsTeamOf U.Inst.Instance U.Unit start units.old.items replies.old.items core.old }
+    ensures team { (start : List U) → StaysTeam U.Inst.Instance U.Unit start units.old.items replies.old.items core.old result units.new.items replies.new.items core.new }
     ensures core { IfOk result (λ _. IsCore U.Inst.wants U.Inst.same_datum core.new × GoesOnFrom core.old core.new) }
     ensures adds { IfOk result (λ _. AddsEntryOf core.old core.new unit) }
     ensures falls { IfOk result (λ _. sum_of U.measure units.new.items < sum_of U.measure units.old.items) }

@@ -1,8 +1,8 @@
 //! Asks that go on.
 
-ghost use Rattle.std.specs.Prelude.{◌≡◌, ◌<◌, ℕ, List, IfOk, IsTrue, IsFalse, MatchOption};
-ghost use Rattle.sg_core.specs.Core.{IsCore, IsRunnable, IsLeastRunnable, run};
-ghost use Rattle.sg_serial.specs.Serial.{IsTeam, GoesOnFrom, AddsEntryOf, AddsLeastFirst, asks_left};
+ghost use Rattle.std.specs.Prelude.{◌≡◌, ◌<◌, List, IfOk, IsTrue, IsFalse};
+ghost use Rattle.sg_core.specs.Core.{IsCore, IsRunnable, run};
+ghost use Rattle.sg_serial.specs.Serial.{IsTeamOf, StaysTeam, GoesOnFrom, AddsEntryOf, AddsLeastFirst, IsNextIdle, asks_left};
 ghost use Rattle.sg_unit.specs.Run.{NoAsk};
 
 use sg_core::{AskState, Core};
@@ -17,8 +17,8 @@ pub fn push<U: Unit>(
 ) -> Result<bool, AllocError>
     requires core { IsCore U.Inst.wants U.Inst.same_datum core.old }
     requires runs { IsRunnable (run U.Inst.wants U.Inst.same_datum core.old) unit }
-    requires team { (start units : List U) × IsTeam U.Inst.wants U.Inst.same_datum U.opening U.kinds U.owes_edge U.owes_datum U.may_ask U.comes_to U.number U.fixed U.stands start units replies.old.items core.old }
-    ensures team { (start units : List U) → IsTeam U.Inst.wants U.Inst.same_datum U.opening U.kinds U.owes_edge U.owes_datum U.may_ask U.comes_to U.number U.fixed U.stands start units replies.old.items core.old → IfOk result (λ _. IsTeam U.Inst.wants U.Inst.same_datum U.opening U.kinds U.owes_edge U.owes_datum U.may_ask U.comes_to U.number U.fixed U.stands start units replies.new.items core.new) }
+    requires team { (start units : List U) × IsTeamOf U.Inst.Instance U.Unit start units replies.old.items core.old }
+    ensures team { (start units : List U) → StaysTeam U.Inst.Instance U.Unit start units replies.old.items core.old result units replies.new.items core.new }
     ensures core { IfOk result (λ _. IsCore U.Inst.wants U.Inst.same_datum core.new × GoesOnFrom core.old core.new) }
     ensures adds { IfOk result (λ b. IsTrue b → AddsEntryOf core.old core.new unit) }
     ensures falls { IfOk result (λ b. IsTrue b → asks_left U.Inst.wants U.Inst.same_datum core.new < asks_left U.Inst.wants U.Inst.same_datum core.old) }
@@ -45,11 +45,11 @@ pub fn settle<U: Unit>(
     replies: &mut Vec<Option<Reply<U::Inst>>>,
 ) -> Result<Option<u32>, AllocError>
     requires core { IsCore U.Inst.wants U.Inst.same_datum core.old }
-    requires team { (start units : List U) × IsTeam U.Inst.wants U.Inst.same_datum U.opening U.kinds U.owes_edge U.owes_datum U.may_ask U.comes_to U.number U.fixed U.stands start units replies.old.items core.old }
-    ensures team { (start units : List U) → IsTeam U.Inst.wants U.Inst.same_datum U.opening U.kinds U.owes_edge U.owes_datum U.may_ask U.comes_to U.number U.fixed U.stands start units replies.old.items core.old → IfOk result (λ _. IsTeam U.Inst.wants U.Inst.same_datum U.opening U.kinds U.owes_edge U.owes_datum U.may_ask U.comes_to U.number U.fixed U.stands start units replies.new.items core.new) }
+    requires team { (start units : List U) × IsTeamOf U.Inst.Instance U.Unit start units replies.old.items core.old }
+    ensures team { (start units : List U) → StaysTeam U.Inst.Instance U.Unit start units replies.old.items core.old result units replies.new.items core.new }
     ensures core { IfOk result (λ _. IsCore U.Inst.wants U.Inst.same_datum core.new × GoesOnFrom core.old core.new) }
     ensures adds { IfOk result (λ _. AddsLeastFirst U.Inst.wants U.Inst.same_datum core.old core.new) }
-    ensures least { IfOk result (λ o. MatchOption o ((u : ℕ) → IsRunnable (run U.Inst.wants U.Inst.same_datum core.new) u → ⊥) (λ u. IsLeastRunnable (run U.Inst.wants U.Inst.same_datum core.new) u × NoAsk (run U.Inst.wants U.Inst.same_datum core.new) u)) }
+    ensures least { IfOk result (IsNextIdle (run U.Inst.wants U.Inst.same_datum core.new)) }
 {
     while let Some(unit) = core.least_runnable() {
         if !push::<U>(core, replies, unit)? {

@@ -1,7 +1,7 @@
 ghost use Rattle.std.specs.Prelude.{◌≡◌, [], List, IfOk};
 ghost use Rattle.sg_core.specs.Core.{IsCore, run};
 ghost use Rattle.sg_core.specs.Over.{HasRun};
-ghost use Rattle.sg_serial.specs.Serial.{IsTeam, GoesOnFrom, IsServedBy, StepsIfRunnable};
+ghost use Rattle.sg_serial.specs.Serial.{IsTeamOf, StaysTeam, GoesOnFrom, IsServedBy, StepsIfRunnable};
 ghost use Rattle.sg_serial.specs.Replies.{AreNone};
 ghost use Rattle.sg_unit.specs.Served.{AreNew};
 
@@ -34,8 +34,8 @@ fn step<U: Unit>(
     unit: u32,
 ) -> Result<(), AllocError>
     requires core { IsCore U.Inst.wants U.Inst.same_datum core.old }
-    requires team { (start : List U) × IsTeam U.Inst.wants U.Inst.same_datum U.opening U.kinds U.owes_edge U.owes_datum U.may_ask U.comes_to U.number U.fixed U.stands start units.old.items replies.old.items core.old }
-    ensures team { (start : List U) → IsTeam U.Inst.wants U.Inst.same_datum U.opening U.kinds U.owes_edge U.owes_datum U.may_ask U.comes_to U.number U.fixed U.stands start units.old.items replies.old.items core.old → IfOk result (λ _. IsTeam U.Inst.wants U.Inst.same_datum U.opening U.kinds U.owes_edge U.owes_datum U.may_ask U.comes_to U.number U.fixed U.stands start units.new.items replies.new.items core.new) }
+    requires team { (start : List U) × IsTeamOf U.Inst.Instance U.Unit start units.old.items replies.old.items core.old }
+    ensures team { (start : List U) → StaysTeam U.Inst.Instance U.Unit start units.old.items replies.old.items core.old result units.new.items replies.new.items core.new }
     ensures core { IfOk result (λ _. IsCore U.Inst.wants U.Inst.same_datum core.new × GoesOnFrom core.old core.new) }
     ensures steps { IfOk result (λ _. StepsIfRunnable U.Inst.wants U.Inst.same_datum core.old core.new unit) }
 {

@@ -1,9 +1,8 @@
 //! Two units that are served one operation at a time, in orders that are given.
 
-ghost use Rattle.std.specs.Prelude.{◌≡◌, ◌<◌, ◌+◌, ◌-◌, ◌==◌, ◌∷◌, [], ℕ, length, IfOk, IfSome, OnErr};
-ghost use Rattle.sg_serial.specs.Example.{crossed, number_of, own_scope, other_scope, worker_op, fixed_part, WorkerStands, IsWorkersEdge, IsWorkersQuery};
+ghost use Rattle.std.specs.Prelude.{◌≡◌, ◌<◌, ◌+◌, ◌-◌, ◌∷◌, [], length, IfOk, IfSome, OnErr};
+ghost use Rattle.sg_serial.specs.Example.{crossed, own_scope, other_scope, worker_op, WorkerCanBeHanded, WorkerSteps, WorkerGivesOwed, WorkerStays};
 ghost use Rattle.sg_state.specs.Opening.{opened_of, opening_of};
-ghost use Rattle.sg_unit.specs.Unit.{setting_of, CanBeHanded, GoesOn, GivesOwed};
 
 use crate::run_serial;
 use sg_base::{Label, Scope};
@@ -120,12 +119,12 @@ impl Unit for Worker {
     }
 
     fn next(&mut self, last: Option<Reply<Numbers>>) -> Result<Op<Numbers, u64>, AllocError>
-        requires { CanBeHanded {R = ℕ} (setting_of (λ p d. p == d) (λ a b. a == b) crossed self.old.kinds.value) (number_of self.old.second) (WorkerStands self.old.kinds.value self.old.second self.old.asks 5 7 self.old.given) last }
-        ensures gives { IfOk result (GoesOn (setting_of (λ p d. p == d) (λ a b. a == b) crossed self.old.kinds.value) (number_of self.old.second) (WorkerStands self.old.kinds.value self.old.second self.old.asks 5 7 self.old.given) (WorkerStands self.new.kinds.value self.new.second self.new.asks 5 7 self.new.given) last) }
-        ensures owed { IfOk result (GivesOwed (setting_of (λ p d. p == d) (λ a b. a == b) crossed self.old.kinds.value) (number_of self.old.second) (λ _. IsWorkersEdge self.old.second self.old.asks) (λ _ _ _. ⊥) (λ _ q. IsWorkersQuery self.old.second self.old.asks 5 q) (λ _ x. x ≡ 7) (WorkerStands self.old.kinds.value self.old.second self.old.asks 5 7 self.old.given) last) }
+        requires { WorkerCanBeHanded self.old.kinds.value self.old.second self.old.asks self.old.given last }
+        ensures gives { IfOk result (WorkerSteps self.old.kinds.value self.old.second self.old.asks self.old.given self.new.kinds.value self.new.second self.new.asks self.new.given last) }
+        ensures owed { IfOk result (WorkerGivesOwed self.old.kinds.value self.old.second self.old.asks self.old.given last) }
         ensures falls { IfOk result (λ _. 3 - self.new.given < 3 - self.old.given) }
         ensures same { OnErr result (self.new ≡ self.old) }
-        ensures fixed { (fixed_part self.new.second self.new.asks self.new.kinds.value ≡ fixed_part self.old.second self.old.asks self.old.kinds.value) × (number_of self.new.second ≡ number_of self.old.second) }
+        ensures fixed { WorkerStays self.old.kinds.value self.old.second self.old.asks self.new.kinds.value self.new.second self.new.asks }
     {
         let _handed = last;
         let op = op_at(self.second, self.asks, self.given);

@@ -1,5 +1,5 @@
 -- Readers of the headers of small programs: scripts of one stage, each with the replies that have come.
-use Rattle.std.specs.Prelude.{◌≡◌, ℕ, List, [], ◌∷◌, cond, is_some, Option, Some, None}
+use Rattle.std.specs.Prelude.{◌≡◌, ℕ, List, [], ◌∷◌, ◌++◌, cond, is_some, Option, Some, None}
 use Rattle.std.specs.List.{Contains}
 use Rattle.sg_base.specs.declared.scope.Scope.{Scope}
 use Rattle.sg_query.specs.declared.answer.Answer.{Answer}
@@ -18,6 +18,10 @@ pub record ReaderOf : Type 0 where
   pub looks : List Scope
   pub gives : List Scope
   pub replies : List (Query ℕ × Answer ℕ)
+
+-- the reader to which this reply came last
+abbrev pub reader_told : ReaderOf → Query ℕ → Answer ℕ → ReaderOf
+reader_told r q a = record { number = r.number; kinds = r.kinds; looks = r.looks; gives = r.gives; replies = r.replies ++ (q, a) ∷ [] }
 
 -- the type with this number
 abbrev pub type_of : ℕ → Scope

@@ -160,7 +160,7 @@ impl Script for Reader {
     ghost use Rattle.std.specs.Prelude.{◌≡◌, ◌++◌, ◌∷◌, [], None, IfOk, OnErr};
     ghost use Rattle.sg_script.specs.Example.{reply_to};
     ghost use Rattle.sg_reading.specs.Replies.{AddsReply};
-    ghost use Rattle.sg_small.specs.Reader.{reader_plan};
+    ghost use Rattle.sg_small.specs.Reader.{reader_plan, reader_told};
 
     type Inst = Numbers;
 
@@ -184,7 +184,7 @@ impl Script for Reader {
 
     fn put(&mut self, query: &Query<u64>, answer: Answer<u64>) -> Result<(), AllocError>
         requires { reply_to self.old.replies query.now ≡ None }
-        ensures put { IfOk result (λ _. self.new ≡ record { number = self.old.number; kinds = self.old.kinds; looks = self.old.looks; gives = self.old.gives; replies = self.old.replies ++ (query.now, answer) ∷ [] }) }
+        ensures put { IfOk result (λ _. self.new ≡ reader_told self.old query.now answer) }
         ensures reply { IfOk result (λ _. AddsReply (reply_to self.old.replies) (reply_to self.new.replies) query.now answer) }
         ensures same { OnErr result (self.new ≡ self.old) }
     {

@@ -1,13 +1,14 @@
 -- Openings: the graph with which a run begins, and who holds what there.
-use Rattle.std.specs.Prelude.{◌≡◌, ℕ, ◌-◌, ◌<◌, ◌^◌, List, [], ◌++◌, map, length, replicate, fold, All, Bool, not}
+use Rattle.std.specs.Prelude.{◌≡◌, ℕ, ◌-◌, ◌<◌, ◌^◌, List, [], ◌++◌, map, length, replicate, fold, All, Bool, not, nat_lt, ◌==◌, ◌&&◌}
 use Rattle.std.specs.Ordering.{on}
-use Rattle.std.specs.List.{Contains, filter, list_any}
+use Rattle.std.specs.List.{Contains, filter, list_any, list_all}
 use Rattle.sg_base.specs.declared.scope.Scope.{Scope}
 use Rattle.sg_base.specs.Graph.{Edge, HasScope, edge_cmp}
 use Rattle.sg_base.specs.List.{IsDistinct}
 use Rattle.sg_base.specs.Scope.{is_scope, scope_cmp}
 use Rattle.sg_state.specs.declared.opening.Opening.{Opening}
 use Rattle.sg_state.specs.Held.{HeldOf, RowHold, DatumHold, IsHeld, put, row_hold_cmp, datum_hold_cmp}
+use Rattle.sg_state.specs.Listed.{lists}
 
 -- the unit of the scopes of an opening, which is the number of no unit
 abbrev pub nobody : ℕ
@@ -44,6 +45,15 @@ opening_of o = record {
   datum_holds = map held_datum_of o.datum_holds.items;
   units = o.units;
 }
+
+-- whether the scopes of the code's opening are nobody's, and all that it names is listed: edges and row holds with labels below 16, and holds of units
+abbrev pub lists_all_named : {D : Type 0} → Opening D → Bool
+lists_all_named o =
+    list_all (λ s. s.unit == nobody) o.scopes.items
+    && (list_all (λ e. nat_lt e.1 16 && (lists o.scopes.items e.0 && lists o.scopes.items e.2)) o.edges.items
+    && (list_all (λ p. lists o.scopes.items p.0) o.given.items
+    && (list_all (λ k. nat_lt k.0 o.units && (nat_lt k.2 16 && lists o.scopes.items k.1)) o.row_holds.items
+    && list_all (λ k. nat_lt k.0 o.units && lists o.scopes.items k.1) o.datum_holds.items)))
 
 -- the scopes that get a datum, at the opening or later
 abbrev pub data_of : {D : Type 0} → OpeningOf D → List Scope

@@ -1,5 +1,5 @@
 -- A held graph as the scopes with what they have.
-use Rattle.std.specs.Prelude.{◌≡◌, ℕ, List, [], ◌∷◌, map, fold, Some, ◌<◌, ◌⊎◌, ◌↔◌, length, slice_index}
+use Rattle.std.specs.Prelude.{◌≡◌, ℕ, List, [], ◌∷◌, map, fold, Some, None, ◌<◌, ◌⊎◌, ◌↔◌, length, slice_index}
 use Rattle.std.specs.BTreeMap.{is_at}
 use Rattle.std.specs.List.{Contains, AllByRecursion, flat_map}
 use Rattle.std.specs.Map.{lookup, set_value}
@@ -12,7 +12,7 @@ use Rattle.sg_state.specs.declared.row.Row.{Row}
 use Rattle.sg_state.specs.declared.slot.Slot.{Slot}
 use Rattle.sg_state.specs.declared.slot.Slot.TheVariants.{Given, Waits, Empty}
 use Rattle.sg_state.specs.Held.{HeldOf, RowHold, DatumHold, put}
-use Rattle.sg_state.specs.Place.{PlaceOf, HasTarget, HasHolder, HasRow, IsPlace}
+use Rattle.sg_state.specs.Place.{PlaceOf, HasTarget, HasHolder, HasRow, IsPlace, LosesUnit}
 
 -- scopes with what they have
 pub record PlacesOf (D : Type 0) : Type 0 where
@@ -88,6 +88,11 @@ SlotAt {D} es s x = (p : PlaceOf D) × Contains es (s, p) × (p.slot ≡ x)
 -- one scope's place is another in the new entries
 abbrev pub ChangesPlace : {D : Type 0} → (PlaceOf D → PlaceOf D → Type 0) → List (Scope × PlaceOf D) → List (Scope × PlaceOf D) → Scope → Type 0
 ChangesPlace {D} R old new s = (p : PlaceOf D) × (q : PlaceOf D) × (lookup (is_at (scope_cmp s)) old ≡ Some p) × (new ≡ set_value (is_at (scope_cmp s)) old q) × R p q × IsPlace q
+
+-- the unit has left all that the scope has, or the scope is not there and nothing has changed
+abbrev pub LeavesPlace : {D : Type 0} → List (Scope × PlaceOf D) → List (Scope × PlaceOf D) → Scope → ℕ → Type 0
+LeavesPlace old new s unit =
+    ChangesPlace (λ p q. LosesUnit p q unit) old new s ⊎ ((lookup (is_at (scope_cmp s)) old ≡ None) × (new ≡ old))
 
 -- the unit has left all that the scopes of the list have
 pub record LeavesAll {D : Type 0} (old new : List (Scope × PlaceOf D)) (list : List Scope) (unit : ℕ) : Type 0 where

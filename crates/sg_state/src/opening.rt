@@ -1,9 +1,7 @@
-ghost use Rattle.std.specs.Prelude.{◌≡◌, ◌==◌, ◌&&◌, nat_lt, IsTrue, ◌↔◌};
-ghost use Rattle.std.specs.List.{list_all};
+ghost use Rattle.std.specs.Prelude.{◌≡◌, IsTrue, ◌↔◌};
 ghost use Rattle.sg_base.specs.List.{IsRising, IsDistinct};
 ghost use Rattle.sg_base.specs.Scope.{scope_cmp};
-ghost use Rattle.sg_state.specs.Listed.{lists};
-ghost use Rattle.sg_state.specs.Opening.{IsSoundOpening, opening_of, data_of, nobody};
+ghost use Rattle.sg_state.specs.Opening.{IsSoundOpening, opening_of, data_of, lists_all_named};
 
 use crate::sound;
 use sg_base::{Label, Scope};
@@ -43,11 +41,7 @@ impl<D> Opening<D> {
     /// Whether all that the opening names is listed, with holders that are units.
     fn is_listed(&self, rising: bool) -> bool
         requires rising { IsTrue rising → IsRising scope_cmp self.now.scopes.items }
-        ensures { result ≡ (list_all (λ s. s.unit == nobody) self.now.scopes.items
-            && (list_all (λ e. nat_lt e.1 16 && (lists self.now.scopes.items e.0 && lists self.now.scopes.items e.2)) self.now.edges.items
-            && (list_all (λ p. lists self.now.scopes.items p.0) self.now.given.items
-            && (list_all (λ k. nat_lt k.0 self.now.units && (nat_lt k.2 16 && lists self.now.scopes.items k.1)) self.now.row_holds.items
-            && list_all (λ k. nat_lt k.0 self.now.units && lists self.now.scopes.items k.1) self.now.datum_holds.items)))) }
+        ensures { result ≡ lists_all_named self.now }
     {
         sound::are_nobodys(&self.scopes)
             && sound::are_edges(&self.scopes, rising, &self.edges)

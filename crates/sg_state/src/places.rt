@@ -1,6 +1,6 @@
 //! The scopes of a held graph with what they have, and what changes at one of them.
 
-ghost use Rattle.std.specs.Prelude.{◌≡◌, ◌<◌, ◌⊎◌, ◌↔◌, [], map, None, IsTrue, IfSome, IfNone, IfOk, OnOk, OnErr};
+ghost use Rattle.std.specs.Prelude.{◌≡◌, ◌<◌, ◌↔◌, [], map, IsTrue, IfSome, IfNone, IfOk, OnOk, OnErr};
 ghost use Rattle.std.specs.BTreeMap.{is_at, insert_entry};
 ghost use Rattle.std.specs.List.{Contains};
 ghost use Rattle.std.specs.Map.{lookup};
@@ -8,8 +8,8 @@ ghost use Rattle.std.specs.Option.{option_copied};
 ghost use Rattle.sg_base.specs.declared.scope.Scope.{Scope as ScopeOf};
 ghost use Rattle.sg_base.specs.List.{IsDistinct, IsRising};
 ghost use Rattle.sg_base.specs.Scope.{scope_cmp};
-ghost use Rattle.sg_state.specs.Place.{PlaceOf, AddsTarget, AddsHolder, LosesHolder, LosesUnit};
-ghost use Rattle.sg_state.specs.View.{ArePlaces, ChangesPlace, EdgeAt, HasKey, RowAt, RowIs, SlotAt, LeavesAll};
+ghost use Rattle.sg_state.specs.Place.{PlaceOf, AddsTarget, AddsHolder, LosesHolder};
+ghost use Rattle.sg_state.specs.View.{ArePlaces, ChangesPlace, EdgeAt, HasKey, RowAt, RowIs, SlotAt, LeavesPlace, LeavesAll};
 
 use crate::place::Place;
 use crate::row::Row;
@@ -167,8 +167,7 @@ impl<D> Places<D> {
     where
         D: Drop,
         requires places { ArePlaces self.old.entries }
-        ensures { ChangesPlace (λ p q. LosesUnit p q unit) self.old.entries self.new.entries s
-            ⊎ ((lookup (is_at (scope_cmp s)) self.old.entries ≡ None) × (self.new.entries ≡ self.old.entries)) }
+        ensures { LeavesPlace self.old.entries self.new.entries s unit }
     {
         match self.found.get_mut(&s) {
             Some(place) => place.leave(unit),

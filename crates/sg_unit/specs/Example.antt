@@ -1,5 +1,5 @@
 -- Small units and a small run, which show that the definitions are met.
-use Rattle.std.specs.Prelude.{◌≡◌, ℕ, zero, suc, List, [], ◌∷◌, Bool, false, Option, Some, None}
+use Rattle.std.specs.Prelude.{◌≡◌, ℕ, zero, suc, List, [], ◌∷◌, ◌==◌, Bool, false, Option, Some, None}
 use Rattle.sg_base.specs.declared.scope.Scope.{Scope}
 use Rattle.sg_expr.specs.Tree.{one_label}
 use Rattle.sg_query.specs.declared.answer.Answer.TheVariants.{TooMany}
@@ -62,6 +62,10 @@ pair = record {
 -- the setting that opens so, with the queries of kind 0 and these ways to compare data
 abbrev pub pair_setting : {D P : Type 0} → (P → D → Bool) → (D → D → Bool) → Setting D P
 pair_setting wants same = record { opening = pair; kinds = one_step; wants = wants; same = same }
+
+-- that setting, where data are numbers, and so are predicates, each of which wants the number that it equals
+abbrev pub number_pair : Setting ℕ ℕ
+number_pair = pair_setting (λ p d. p == d) (λ a b. a == b)
 
 -- unit 0 asks along the row of unit 1, and waits
 abbrev pub pair_log : {I R D P : Type 0} → P → List (Entry I R D P)

@@ -1,5 +1,5 @@
 -- Runs: what a list of entries makes of an opening.
-use Rattle.std.specs.Prelude.{◌≡◌, ℕ, suc, List, [], ◌∷◌, Bool, false, ◌&&◌, not, ◌==◌, cond, length, nat_lt}
+use Rattle.std.specs.Prelude.{◌≡◌, ℕ, suc, List, [], ◌∷◌, Bool, false, ◌&&◌, not, ◌==◌, cond, length, nat_lt, IsTrue}
 use Rattle.std.specs.List.{list_any}
 use Rattle.sg_query.specs.declared.query.Query.{Query}
 use Rattle.sg_query.specs.Query.{KindOf, Asked, asked}
@@ -100,6 +100,10 @@ run_of z log = run_from (opened z) log
 -- the unit asks nothing
 abbrev pub NoAsk : {D P : Type 0} → RunOf D P → ℕ → Type 0
 NoAsk r u = r.asks u ≡ no_ask
+
+-- it asks nothing, and is live
+abbrev pub IsFreeUnit : {D P : Type 0} → RunOf D P → ℕ → Type 0
+IsFreeUnit r u = NoAsk r u × IsTrue (r.live u)
 
 -- it is an open query
 abbrev pub IsOpenAsk : {P : Type 0} → Asking P → Type 0

@@ -8,6 +8,7 @@ use Rattle.sg_state.specs.Held.{HeldOf}
 use Rattle.sg_unit.specs.declared.entry.Entry.{Entry}
 use Rattle.sg_unit.specs.declared.op.Op.{Op}
 use Rattle.sg_unit.specs.declared.reply.Reply.{Reply}
+use Rattle.sg_unit.specs.declared.unit.Unit.{Ghosts as UnitOf}
 use Rattle.sg_unit.specs.Honest.{IsHonest}
 use Rattle.sg_unit.specs.Operation.{is_ask}
 use Rattle.sg_unit.specs.Trace.{Past, told}
@@ -44,3 +45,7 @@ module _ {I R D P F : Type 0} (wants : P → D → Bool) (same : D → D → Boo
     pub stood : stands v (told mine).past (told mine).last
     pub waiting : y ≡ (told mine).reply
     pub honest : IsHonestBy mine u f
+
+-- the same of a unit, by the members of its type
+abbrev pub IsServedUnit : {V I R D P : Type 0} → (P → D → Bool) → (D → D → Bool) → (unit : UnitOf V I R D P) → List (Entry I R D P) → ℕ → unit.Fixed → V → Option (Reply I D P) → Type 0
+IsServedUnit wants same unit = IsServed wants same unit.opening unit.kinds unit.owes_edge unit.owes_datum unit.may_ask unit.comes_to unit.number unit.fixed unit.stands

@@ -1,7 +1,6 @@
 ghost use Rattle.std.specs.Prelude.{◌≡◌, ◌<◌, ◌^◌, ◌++◌, ◌∷◌, [], true, false, length, IfOk, OnErr};
-ghost use Rattle.sg_unit.specs.Own.{MayBy, CanReply};
-ghost use Rattle.sg_unit.specs.Run.{run_of};
-ghost use Rattle.sg_unit.specs.Unit.{setting_of};
+ghost use Rattle.sg_unit.specs.Own.{MayBy};
+ghost use Rattle.sg_unit.specs.Unit.{setting_at, SeatCanReply};
 
 use crate::op::Op;
 use crate::reply::Reply;
@@ -34,9 +33,9 @@ pub trait Desk {
         op: Op<Self::Inst, Self::Outcome>,
     ) -> Result<Reply<Self::Inst>, AllocError>
         requires own { sits self.now seat.old × (Self.Place.spent seat.old ≡ false) }
-        requires may { MayBy (setting_of Self.Inst.wants Self.Inst.same_datum (Self.Place.opening seat.old) (Self.Place.kinds seat.old)) (Self.Place.mine seat.old) (Self.Place.number seat.old) op }
+        requires may { MayBy (setting_at Self.Inst.wants Self.Inst.same_datum Self.Place.opening Self.Place.kinds seat.old) (Self.Place.mine seat.old) (Self.Place.number seat.old) op }
         ensures added { IfOk result (λ reply. Self.Place.mine seat.new ≡ Self.Place.mine seat.old ++ (record { unit = Self.Place.number seat.old; op = op; reply = reply }) ∷ []) }
-        ensures reply { IfOk result (CanReply (run_of (setting_of Self.Inst.wants Self.Inst.same_datum (Self.Place.opening seat.old) (Self.Place.kinds seat.old)) (Self.Place.mine seat.old)) (Self.Place.number seat.old) op) }
+        ensures reply { IfOk result (SeatCanReply Self.Inst.wants Self.Inst.same_datum Self.Place.opening Self.Place.kinds Self.Place.mine Self.Place.number seat.old op) }
         ensures short { IfOk result (λ _. length (Self.Place.mine seat.new) < 2 ^ 63) }
         ensures unspent { IfOk result (λ _. Self.Place.spent seat.new ≡ false) }
         ensures err { OnErr result ((Self.Place.mine seat.new ≡ Self.Place.mine seat.old) × (Self.Place.spent seat.new ≡ true)) }

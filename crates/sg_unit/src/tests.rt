@@ -1,11 +1,11 @@
 //! Small honest units, driven by hand.
 
-ghost use Rattle.std.specs.Prelude.{◌≡◌, ◌<◌, ◌-◌, ◌^◌, ◌==◌, ◌++◌, ◌∷◌, [], ℕ, IsTrue, true, false, length, IfOk, OnErr};
-ghost use Rattle.sg_unit.specs.Example.{corner_query, one_step, pair, AskerStands, IsAskersEdge, MakerStands, desk_reply};
+ghost use Rattle.std.specs.Prelude.{◌≡◌, ◌<◌, ◌-◌, ◌^◌, ◌++◌, ◌∷◌, [], ℕ, true, false, length, IfOk, OnErr};
+ghost use Rattle.sg_unit.specs.Example.{corner_query, number_pair, AskerStands, IsAskersEdge, MakerStands, desk_reply};
 ghost use Rattle.sg_unit.specs.Own.{CanReply, IsOwnRun};
-ghost use Rattle.sg_unit.specs.Run.{run_of, NoAsk};
-ghost use Rattle.sg_unit.specs.Served.{IsServed};
-ghost use Rattle.sg_unit.specs.Unit.{setting_of, CanBeHanded, GoesOn, GivesOwed};
+ghost use Rattle.sg_unit.specs.Run.{run_of, IsFreeUnit};
+ghost use Rattle.sg_unit.specs.Served.{IsServedUnit};
+ghost use Rattle.sg_unit.specs.Unit.{setting_at, CanBeHanded, GoesOn, GivesOwed};
 
 use crate::{Desk, Entry, Gate, NoGate, Op, Reply, Seat, Unit, Woken};
 use sg_base::{Label, LabelSet, Scope};
@@ -57,9 +57,9 @@ impl Unit for Asker {
     }
 
     fn next(&mut self, last: Option<Reply<Numbers>>) -> Result<Op<Numbers, u64>, AllocError>
-        requires { CanBeHanded {R = ℕ} (setting_of (λ p d. p == d) (λ a b. a == b) pair one_step) 1 (AskerStands 5 7 self.old.given) last }
-        ensures gives { IfOk result (GoesOn (setting_of (λ p d. p == d) (λ a b. a == b) pair one_step) 1 (AskerStands 5 7 self.old.given) (AskerStands 5 7 self.new.given) last) }
-        ensures owed { IfOk result (GivesOwed (setting_of (λ p d. p == d) (λ a b. a == b) pair one_step) 1 (λ _. IsAskersEdge) (λ _ _ _. ⊥) (λ _ q. q ≡ corner_query 5) (λ _ x. x ≡ 7) (AskerStands 5 7 self.old.given) last) }
+        requires { CanBeHanded {R = ℕ} number_pair 1 (AskerStands 5 7 self.old.given) last }
+        ensures gives { IfOk result (GoesOn number_pair 1 (AskerStands 5 7 self.old.given) (AskerStands 5 7 self.new.given) last) }
+        ensures owed { IfOk result (GivesOwed number_pair 1 (λ _. IsAskersEdge) (λ _ _ _. ⊥) (λ _ q. q ≡ corner_query 5) (λ _ x. x ≡ 7) (AskerStands 5 7 self.old.given) last) }
         ensures falls { IfOk result (λ _. 3 - self.new.given < 3 - self.old.given) }
         ensures same { OnErr result (self.new ≡ self.old) }
     {
@@ -130,9 +130,9 @@ impl Unit for Maker {
     }
 
     fn next(&mut self, last: Option<Reply<Numbers>>) -> Result<Op<Numbers, u64>, AllocError>
-        requires { CanBeHanded {R = ℕ} (setting_of (λ p d. p == d) (λ a b. a == b) pair one_step) 0 (MakerStands 7 self.old.given) last }
-        ensures gives { IfOk result (GoesOn (setting_of (λ p d. p == d) (λ a b. a == b) pair one_step) 0 (MakerStands 7 self.old.given) (MakerStands 7 self.new.given) last) }
-        ensures owed { IfOk result (GivesOwed (setting_of (λ p d. p == d) (λ a b. a == b) pair one_step) 0 (λ _ _ _ _. ⊥) (λ _ _ _. ⊥) (λ _ _. ⊥) (λ _ x. x ≡ 7) (MakerStands 7 self.old.given) last) }
+        requires { CanBeHanded {R = ℕ} number_pair 0 (MakerStands 7 self.old.given) last }
+        ensures gives { IfOk result (GoesOn number_pair 0 (MakerStands 7 self.old.given) (MakerStands 7 self.new.given) last) }
+        ensures owed { IfOk result (GivesOwed number_pair 0 (λ _ _ _ _. ⊥) (λ _ _ _. ⊥) (λ _ _. ⊥) (λ _ x. x ≡ 7) (MakerStands 7 self.old.given) last) }
         ensures falls { IfOk result (λ _. 3 - self.new.given < 3 - self.old.given) }
         ensures same { OnErr result (self.new ≡ self.old) }
     {
@@ -224,7 +224,7 @@ impl Desk for OwnDesk {
     ) -> Result<Reply<Numbers>, AllocError>
         requires { seat.old.spent ≡ false }
         ensures added { IfOk result (λ reply. seat.new.log.items ≡ seat.old.log.items ++ (record { unit = 1; op = op; reply = reply }) ∷ []) }
-        ensures reply { IfOk result (CanReply (run_of (setting_of (λ p d. p == d) (λ a b. a == b) pair one_step) seat.old.log.items) 1 op) }
+        ensures reply { IfOk result (CanReply (run_of number_pair seat.old.log.items) 1 op) }
         ensures short { IfOk result (λ _. length seat.new.log.items < 2 ^ 63) }
         ensures unspent { IfOk result (λ _. seat.new.spent ≡ false) }
         ensures err { OnErr result ((seat.new.log.items ≡ seat.old.log.items) × (seat.new.spent ≡ true)) }
@@ -261,11 +261,11 @@ fn step<U: Unit, K: Desk<Inst = U::Inst, Outcome = U::Outcome>, Rt: Threads + Wa
 ) -> Result<(), AllocError>
     requires seat { K.sits desk.now seat.old × (K.Place.spent seat.old ≡ false) }
     requires run { (K.Place.opening seat.old ≡ U.opening (U.fixed unit.old)) × (K.Place.kinds seat.old ≡ U.kinds (U.fixed unit.old)) }
-    requires own { IsOwnRun (setting_of U.Inst.wants U.Inst.same_datum (U.opening (U.fixed unit.old)) (U.kinds (U.fixed unit.old))) (K.Place.number seat.old) (K.Place.mine seat.old) }
-    requires free { NoAsk (run_of (setting_of U.Inst.wants U.Inst.same_datum (U.opening (U.fixed unit.old)) (U.kinds (U.fixed unit.old))) (K.Place.mine seat.old)) (K.Place.number seat.old) × IsTrue ((run_of (setting_of U.Inst.wants U.Inst.same_datum (U.opening (U.fixed unit.old)) (U.kinds (U.fixed unit.old))) (K.Place.mine seat.old)).live (K.Place.number seat.old)) }
-    requires served { IsServed U.Inst.wants U.Inst.same_datum U.opening U.kinds U.owes_edge U.owes_datum U.may_ask U.comes_to U.number U.fixed U.stands (K.Place.mine seat.old) (K.Place.number seat.old) (U.fixed unit.old) unit.old last.old }
-    ensures own { IfOk result (λ _. IsOwnRun (setting_of U.Inst.wants U.Inst.same_datum (U.opening (U.fixed unit.old)) (U.kinds (U.fixed unit.old))) (K.Place.number seat.old) (K.Place.mine seat.new)) }
-    ensures served { IfOk result (λ _. IsServed U.Inst.wants U.Inst.same_datum U.opening U.kinds U.owes_edge U.owes_datum U.may_ask U.comes_to U.number U.fixed U.stands (K.Place.mine seat.new) (K.Place.number seat.old) (U.fixed unit.old) unit.new last.new) }
+    requires own { IsOwnRun (setting_at U.Inst.wants U.Inst.same_datum U.opening U.kinds (U.fixed unit.old)) (K.Place.number seat.old) (K.Place.mine seat.old) }
+    requires free { IsFreeUnit (run_of (setting_at U.Inst.wants U.Inst.same_datum U.opening U.kinds (U.fixed unit.old)) (K.Place.mine seat.old)) (K.Place.number seat.old) }
+    requires served { IsServedUnit U.Inst.wants U.Inst.same_datum U.Unit (K.Place.mine seat.old) (K.Place.number seat.old) (U.fixed unit.old) unit.old last.old }
+    ensures own { IfOk result (λ _. IsOwnRun (setting_at U.Inst.wants U.Inst.same_datum U.opening U.kinds (U.fixed unit.old)) (K.Place.number seat.old) (K.Place.mine seat.new)) }
+    ensures served { IfOk result (λ _. IsServedUnit U.Inst.wants U.Inst.same_datum U.Unit (K.Place.mine seat.new) (K.Place.number seat.old) (U.fixed unit.old) unit.new last.new) }
     ensures short { IfOk result (λ _. length (K.Place.mine seat.new) < 2 ^ 63) }
 {
     let handed = last.take();

@@ -6,7 +6,7 @@ ghost use Rattle.sg_query.specs.declared.query.Query.{Query as QueryOf};
 ghost use Rattle.sg_state.specs.Held.{HeldOf};
 ghost use Rattle.sg_unit.specs.declared.op.Op.{Op as OpOf};
 ghost use Rattle.sg_unit.specs.Trace.{Past};
-ghost use Rattle.sg_unit.specs.Unit.{setting_of, CanBeHanded, GoesOn, GivesOwed};
+ghost use Rattle.sg_unit.specs.Unit.{setting_at, CanBeHanded, GoesOn, UnitGivesOwed};
 
 use crate::op::Op;
 use crate::reply::Reply;
@@ -66,9 +66,9 @@ pub trait Unit: Drop {
         &mut self,
         last: Option<Reply<Self::Inst>>,
     ) -> Result<Op<Self::Inst, Self::Outcome>, AllocError>
-        requires { CanBeHanded (setting_of Self.Inst.wants Self.Inst.same_datum (opening (fixed self.old)) (kinds (fixed self.old))) (number self.old) (stands self.old) last }
-        ensures gives { IfOk result (GoesOn (setting_of Self.Inst.wants Self.Inst.same_datum (opening (fixed self.old)) (kinds (fixed self.old))) (number self.old) (stands self.old) (stands self.new) last) }
-        ensures owed { IfOk result (GivesOwed (setting_of Self.Inst.wants Self.Inst.same_datum (opening (fixed self.old)) (kinds (fixed self.old))) (number self.old) (owes_edge (fixed self.old)) (owes_datum (fixed self.old)) (may_ask (fixed self.old)) (comes_to (fixed self.old)) (stands self.old) last) }
+        requires { CanBeHanded (setting_at Self.Inst.wants Self.Inst.same_datum opening kinds (fixed self.old)) (number self.old) (stands self.old) last }
+        ensures gives { IfOk result (GoesOn (setting_at Self.Inst.wants Self.Inst.same_datum opening kinds (fixed self.old)) (number self.old) (stands self.old) (stands self.new) last) }
+        ensures owed { IfOk result (UnitGivesOwed Self.Inst.wants Self.Inst.same_datum opening kinds owes_edge owes_datum may_ask comes_to number fixed stands self.old last) }
         ensures falls { IfOk result (λ _. measure self.new < measure self.old) }
         ensures same { OnErr result (self.new ≡ self.old) }
         ensures fixed { (fixed self.new ≡ fixed self.old) × (number self.new ≡ number self.old) };

@@ -1,11 +1,11 @@
 //! Modifiers (JLS 8.1.1, 8.3.1, 8.4.3).
 
-ghost use Rattle.std.specs.Prelude.{◌≡◌, ◌<◌, [], ◌∷◌, Ok, Err, length, nat_eq, MatchOption};
+ghost use Rattle.std.specs.Prelude.{◌≡◌, [], Ok, Err, nat_eq, MatchOption};
 ghost use Rattle.std.specs.List.{list_any};
 ghost use Rattle.jv_grammar.specs.Marks.{modifiers};
 ghost use Rattle.jv_grammar.specs.DeclReader.{mods_of};
 ghost use Rattle.jv_parse_expr.specs.View.{Gives};
-ghost use Rattle.jv_parse.specs.DeclView.{modifiers_of};
+ghost use Rattle.jv_parse.specs.DeclView.{StartsModifiers, modifiers_of};
 
 use jv_grammar::Terminal;
 use jv_parse_expr::fault::Fault;
@@ -32,7 +32,7 @@ fn is_modifier(word: u8) -> bool
 #[tactic(auto, unfolding(jv_grammar::specs::DeclReader::mods_of))]
 fn modifier(terminals: &[Terminal]) -> Option<(u8, &[Terminal])>
     ensures { MatchOption result (mods_of terminals.now ≡ ([], terminals.now))
-        (λ p. (mods_of terminals.now ≡ (p.0 ∷ (mods_of p.1.now).0, (mods_of p.1.now).1)) × (length p.1.now < length terminals.now)) }
+        (λ p. StartsModifiers terminals.now p.0 p.1.now) }
 {
     match split(terminals) {
         Some((Terminal::Keyword(_, word), after)) => {

@@ -3,10 +3,9 @@
 ghost use Rattle.std.specs.Prelude.{◌≡◌, map, IfOk};
 ghost use Rattle.std.specs.Option.{option_map};
 ghost use Rattle.jv_tree.specs.TypeTree.{ids_of, type_tree};
-ghost use Rattle.jv_tree.specs.ExprTree.{expr_trees};
 ghost use Rattle.jv_tree.specs.StmtTree.{stmt_trees, var_trees};
 ghost use Rattle.jv_tree.specs.DeclTree as d;
-ghost use Rattle.jv_tree.specs.DeclTree.{import_tree, param_tree, method_tree, ctor_tree, member_tree, member_trees, type_decl_tree, tree_of};
+ghost use Rattle.jv_tree.specs.DeclTree.{import_tree, param_tree, body_trees, call_tree, method_tree, ctor_tree, member_tree, member_trees, type_decl_tree, tree_of};
 
 use crate::declaration::{Ctor, Import, Member, Method, Mods, Param, TypeDecl, Unit};
 use crate::expression::Expr;
@@ -108,7 +107,7 @@ pub fn method(
       result = type_tree gives;
       name = name;
       params = map param_tree params.items;
-      body = option_map (λ b. stmt_trees b.items) body;
+      body = body_trees body;
     } }
 {
     Method {
@@ -132,7 +131,7 @@ pub fn constructor(
       mods = mods.words.items;
       name = name;
       params = map param_tree params.items;
-      call = option_map (λ x. (x.0, expr_trees x.1.items)) call;
+      call = call_tree call;
       body = stmt_trees body.items;
     } }
 {

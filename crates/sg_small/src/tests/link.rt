@@ -1,6 +1,5 @@
-ghost use Rattle.std.specs.Prelude.{◌≡◌, ◌<◌, ◌+◌, ◌-◌, ◌==◌, [], length, ℕ, IfOk, IfSome, OnErr};
-ghost use Rattle.sg_small.specs.Link.{CanAsk, LinkStands, along, link_op, link_part};
-ghost use Rattle.sg_unit.specs.Unit.{setting_of, CanBeHanded, GoesOn, GivesOwed};
+ghost use Rattle.std.specs.Prelude.{◌≡◌, ◌<◌, ◌+◌, ◌-◌, [], length, IfOk, IfSome, OnErr};
+ghost use Rattle.sg_small.specs.Link.{CanAsk, LinkCanBeHanded, LinkSteps, LinkGivesOwed, LinkStays, link_op};
 
 use sg_base::{Graph, Scope};
 use sg_core::Core;
@@ -110,12 +109,12 @@ impl Unit for Link {
     }
 
     fn next(&mut self, last: Option<Reply<Numbers>>) -> Result<Op<Numbers, u64>, AllocError>
-        requires { CanBeHanded {R = ℕ} (setting_of (λ p d. p == d) (λ a b. a == b) self.old.core.value.opening self.old.core.value.kinds) self.old.number (LinkStands self.old.core.value.opening self.old.core.value.kinds self.old.number self.old.looks 5 self.old.number self.old.given) last }
-        ensures gives { IfOk result (GoesOn (setting_of (λ p d. p == d) (λ a b. a == b) self.old.core.value.opening self.old.core.value.kinds) self.old.number (LinkStands self.old.core.value.opening self.old.core.value.kinds self.old.number self.old.looks 5 self.old.number self.old.given) (LinkStands self.new.core.value.opening self.new.core.value.kinds self.new.number self.new.looks 5 self.new.number self.new.given) last) }
-        ensures owed { IfOk result (GivesOwed (setting_of (λ p d. p == d) (λ a b. a == b) self.old.core.value.opening self.old.core.value.kinds) self.old.number (λ _ _ _ _. ⊥) (λ _ _ _. ⊥) (λ _ q. q ≡ along self.old.looks 5) (λ _ x. x ≡ self.old.number) (LinkStands self.old.core.value.opening self.old.core.value.kinds self.old.number self.old.looks 5 self.old.number self.old.given) last) }
+        requires { LinkCanBeHanded self.old.core.value self.old.number self.old.looks self.old.given last }
+        ensures gives { IfOk result (LinkSteps self.old.core.value self.old.number self.old.looks self.old.given self.new.core.value self.new.number self.new.looks self.new.given last) }
+        ensures owed { IfOk result (LinkGivesOwed self.old.core.value self.old.number self.old.looks self.old.given last) }
         ensures falls { IfOk result (λ _. 2 - self.new.given < 2 - self.old.given) }
         ensures same { OnErr result (self.new ≡ self.old) }
-        ensures fixed { (link_part self.new.number self.new.looks self.new.core.value.opening self.new.core.value.kinds ≡ link_part self.old.number self.old.looks self.old.core.value.opening self.old.core.value.kinds) × (self.new.number ≡ self.old.number) }
+        ensures fixed { LinkStays self.old.core.value self.old.number self.old.looks self.new.core.value self.new.number self.new.looks }
     {
         let _handed = last;
         let op = op_at(self.looks, self.number, self.given);

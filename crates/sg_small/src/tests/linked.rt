@@ -1,7 +1,7 @@
 //! Links in a ring, a chain and a star, run by several workers and on one thread.
 
 ghost use Rattle.std.specs.Prelude.{◌≡◌, ◌<◌, ◌≤◌, [], length, IfOk, IfSome};
-ghost use Rattle.sg_small.specs.Link.{AreNewLinks};
+ghost use Rattle.sg_small.specs.Link.{AreNewLinks, BeginsWithLinks};
 
 use crate::tests::link::Link;
 use crate::tests::one_step;
@@ -88,7 +88,7 @@ fn begin(
     count: u32,
 ) -> Result<Option<(Core<Numbers, u64>, Vec<Link>)>, AllocError>
     requires { length table ≡ 1 }
-    ensures { IfOk result (λ o. IfSome o (λ p. (p.0.log ≡ []) × AreNewLinks (λ l. l.number) (λ l. l.looks) (λ l. l.given) (λ l. l.core.value) p.0 (length p.0.opening.made) p.1.items)) }
+    ensures { IfOk result (λ o. IfSome o (λ p. BeginsWithLinks (λ l. l.number) (λ l. l.looks) (λ l. l.given) (λ l. l.core.value) p.0 p.1.items)) }
 {
     let o = opening(alloc, count)?;
     if !o.is_sound() {

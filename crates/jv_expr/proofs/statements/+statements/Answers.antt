@@ -2,7 +2,7 @@ use Rattle.std.proofs.Common.{Err, refl}
 use Rattle.jv_expr.proofs.Locals.{adds_more}
 use Rattle.jv_expr.proofs.StatementEnds.{scope_stops}
 use Rattle.jv_expr.proofs.StatementCases.{for_stops_first, for_stops_second, for_ends}
-use Rattle.jv_expr.proofs.StatementLists.{all_halt, branches_next}
+use Rattle.jv_expr.proofs.StatementLists.{all_halt, branches_end, branches_halt, branches_next}
 use Rattle.jv_expr.proofs.statements.+statements.Goals as goal
 
 pub check_all-returns-in_err-check_statement-clause-reads : goal.check_all-returns-in_err-check_statement-clause-reads
@@ -13,6 +13,14 @@ check_branches-loop-branch-preserved t c = record {
   reads = λ x h. c.loop-branch.invariant.reads x (branches_next _ _ _ _ _ _ _ _ _ _ _ _ _ _ x c.loop-branch-test.true c.branch-item.is c.as_slice.ensures.value refl refl c.in_ok-check_condition-in-If.ensures c.in_ok-check_statement-in-If.ensures.reads h);
   grows = adds_more _ _ c.loop-branch.invariant.grows _ c.in_ok-check_statement-in-If.ensures.grows;
 }
+
+pub check_branches-returns-in_err-check_condition-in-If-clause-reads :
+    goal.check_branches-returns-in_err-check_condition-in-If-clause-reads
+check_branches-returns-in_err-check_condition-in-If-clause-reads t c = scope_stops _ _ _ _ c.from_residual.ensures.1 _ _ (c.loop-branch.invariant.reads (Err _) (branches_halt _ _ _ _ _ _ _ _ _ _ _ c.loop-branch-test.true c.branch-item.is c.as_slice.ensures.value refl c.in_err-check_condition-in-If.ensures))
+
+pub check_branches-returns-after-loop-branch-clause-reads :
+    goal.check_branches-returns-after-loop-branch-clause-reads
+check_branches-returns-after-loop-branch-clause-reads t c = c.loop-branch.invariant.reads _ (branches_end _ _ _ _ _ _ _ _ c.loop-branch-test.false refl)
 
 pub check_statement-returns-in_err-check_all-in-For-clause-reads :
     goal.check_statement-returns-in_err-check_all-in-For-clause-reads

@@ -1,7 +1,8 @@
 use Rattle.std.proofs.Common.{◌≡◌, ◌∷◌, ◌++◌, [], Some, false, length, map, ap, sym, ◌∙◌, arith, append-nil, append_assoc, length-append}
 use Rattle.std.proofs.lemmas.List.Elements.{All-pop, All-nil, All-cons}
 use Rattle.sg_pool.specs.Pool.{IsKept}
-use Rattle.sg_pool.proofs.Pools.{more_laid, none_laid, none_left, whole_kept}
+use Rattle.sg_board.proofs.Laid.{more_laid, none_left}
+use Rattle.sg_pool.proofs.Pools.{none_laid, whole_kept}
 use Rattle.sg_pool.proofs.finishing.into_seats.Goals as goal
 
 pub loop-job-init : goal.loop-job-init
