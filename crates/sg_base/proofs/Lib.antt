@@ -10,4 +10,5 @@ pub mod Rising
 pub mod Rows
 pub mod Scopes
 pub mod Searching
+pub mod Sharing
 pub mod Trees

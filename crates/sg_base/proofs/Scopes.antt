@@ -10,7 +10,7 @@ use Rattle.sg_base.specs.declared.row.Row.{Row}
 use Rattle.sg_base.specs.declared.scope.Scope.{Scope}
 use Rattle.sg_base.specs.declared.step.Step.{Step}
 use Rattle.sg_base.specs.Graph.{Edge}
-use Rattle.sg_base.specs.Path.{PathOf, step_cmp, path_cmp}
+use Rattle.sg_base.specs.Path.{PathOf, is_step, step_cmp, path_cmp}
 use Rattle.sg_base.specs.Row.{row_cmp, row_total}
 use Rattle.sg_base.specs.Scope.{scope_cmp, scope_total, is_scope}
 
@@ -113,6 +113,18 @@ number_itself a = grind (arith, nat_tests)
 pub both_true : (a b : Bool) → (a && b) ≡ true → (a ≡ true) × (b ≡ true)
 both_true true b h = (refl, h)
 both_true false b h = absurd (cc)
+
+pub step_same : (a b : Step) → is_step a b ≡ true → a ≡ b
+step_same a b h =
+    let k : (eqb a.label b.label ≡ true) × (is_scope a.to b.to ≡ true) = both_true (eqb a.label b.label) (is_scope a.to b.to) h in
+    step_by a b (number_same a.label b.label k.0) (scope_same a.to b.to k.1)
+
+pub same_step : (a b : Step) → a ≡ b → is_step a b ≡ true
+same_step a b e = subst (λ (s : Step). is_step a s ≡ true) e (and_itself (eqb a.label a.label) (is_scope a.to a.to) (number_itself a.label) (same_scope a.to a.to refl))
+  where
+    and_itself : (b c : Bool) → b ≡ true → c ≡ true → (b && c) ≡ true
+    and_itself true c f g = g
+    and_itself false c f g = f
 
 pub not_true : (b : Bool) → (b ≡ true → ⊥) → b ≡ false
 not_true true n = absurd (n refl)

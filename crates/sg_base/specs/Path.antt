@@ -1,5 +1,5 @@
 -- Paths as a start and steps, with their ends, words and order.
-use Rattle.std.specs.Prelude.{List, [], ◌∷◌}
+use Rattle.std.specs.Prelude.{ℕ, suc, ◌==◌, ◌&&◌, Bool, cond, List, [], ◌∷◌}
 use Rattle.std.specs.Cmp.{IsTotalOrder, nat_cmp_total, on_total, then_total}
 use Rattle.std.specs.Cmp.Lexicographic.{slice_cmp, lists_total}
 use Rattle.std.specs.Ordering.{nat_cmp, on, then_cmp}
@@ -7,7 +7,7 @@ use Rattle.std.specs.declared.cmp.Ordering.{Ordering}
 use Rattle.sg_base.specs.declared.scope.Scope.{Scope}
 use Rattle.sg_base.specs.declared.step.Step.{Step}
 use Rattle.sg_base.specs.Label.{Word}
-use Rattle.sg_base.specs.Scope.{scope_cmp, scope_total}
+use Rattle.sg_base.specs.Scope.{is_scope, scope_cmp, scope_total}
 
 -- where a path starts, and its steps
 pub record PathOf : Type 0 where
@@ -28,6 +28,16 @@ word_of (p ∷ ps) = p.label ∷ word_of ps
 abbrev pub reached_by : List Step → List Scope
 reached_by [] = []
 reached_by (p ∷ ps) = p.to ∷ reached_by ps
+
+-- whether two steps are the same
+abbrev pub is_step : Step → Step → Bool
+is_step p q = (p.label == q.label) && is_scope p.to q.to
+
+-- how many steps are the same at the beginning of both
+abbrev pub shared_len : List Step → List Step → ℕ
+shared_len [] qs = 0
+shared_len (p ∷ ps) [] = 0
+shared_len (p ∷ ps) (q ∷ qs) = cond (is_step p q) (suc (shared_len ps qs)) 0
 
 -- the order of steps: by label number, then target
 abbrev pub step_cmp : Step → Step → Ordering

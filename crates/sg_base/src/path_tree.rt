@@ -1,7 +1,7 @@
 ghost use Rattle.std.specs.Prelude.{◌≡◌, ◌<◌, ◌≤◌, ◌^◌, [], ◌∷◌, ◌++◌, List, length, slice_index_or, IfOk, OnOk, OnErr, MatchOption};
 ghost use Rattle.std.specs.Cmp.Lexicographic.{slice_cmp};
 ghost use Rattle.sg_base.specs.declared.step.Step.{Step as StepOf};
-ghost use Rattle.sg_base.specs.Path.{end_of, step_cmp};
+ghost use Rattle.sg_base.specs.Path.{end_of, shared_len, step_cmp};
 ghost use Rattle.sg_base.specs.PathTree.{path_at, path_in, BeginsWith};
 
 use crate::path_node::PathNode;
@@ -178,5 +178,34 @@ impl PathTree {
             }
         }
         rest
+    }
+
+    /// How many steps are the same at the beginning of two paths of the tree. It takes the time of the steps behind the place
+    /// where the paths part in the tree.
+    pub fn shared_len(&self, p: usize, q: usize) -> usize
+        requires first { p < length self.now.paths }
+        requires second { q < length self.now.paths }
+        ensures { result ≡ shared_len (path_at self.now.paths p) (path_at self.now.paths q) }
+    {
+        let len = self.steps_len(p).min(self.steps_len(q));
+        let (mut i, _) = self.front(p, len);
+        let (mut j, _) = self.front(q, len);
+        let mut same = len;
+        while i != j {
+            match self.last(i) {
+                None => return same,
+                Some((a, x)) => match self.last(j) {
+                    None => return same,
+                    Some((b, y)) => {
+                        if x != y {
+                            same = self.steps_len(a);
+                        }
+                        i = a;
+                        j = b;
+                    }
+                },
+            }
+        }
+        same
     }
 }

@@ -72,7 +72,7 @@ fn paths_are_ordered_step_by_step(rt: HostRuntime) -> Result<(), Fail> {
 #[test]
 fn paths_of_a_tree_share_their_fronts(rt: HostRuntime) -> Result<(), Fail> {
     let mut tree = PathTree::new(rt.alloc(), scope(0));
-    for (parent, to) in [(0, 1), (1, 2), (0, 3), (2, 4), (1, 5)] {
+    for (parent, to) in [(0, 1), (1, 2), (0, 3), (2, 4), (1, 5), (0, 1), (6, 2)] {
         assert!(rt; parent < tree.len());
         let label = Label::new(1);
         tree.push(
@@ -83,15 +83,19 @@ fn paths_of_a_tree_share_their_fronts(rt: HostRuntime) -> Result<(), Fail> {
             },
         )?;
     }
-    for (p, q, order) in [
-        (4, 5, Ordering::Less),
-        (3, 4, Ordering::Greater),
-        (2, 4, Ordering::Less),
-        (4, 0, Ordering::Greater),
-        (2, 2, Ordering::Equal),
+    for (p, q, order, shared) in [
+        (4, 5, Ordering::Less, 1),
+        (3, 4, Ordering::Greater, 0),
+        (2, 4, Ordering::Less, 2),
+        (4, 0, Ordering::Greater, 0),
+        (2, 2, Ordering::Equal, 2),
+        (7, 4, Ordering::Less, 2),
+        (7, 5, Ordering::Less, 1),
+        (2, 7, Ordering::Equal, 2),
     ] {
         assert!(rt; p < tree.len() && q < tree.len());
         assert!(rt; tree.compare(p, q) == order, "at {p} and {q}");
+        assert_eq!(rt; tree.shared_len(p, q), shared, "at {p} and {q}");
     }
     assert!(rt; 4 < tree.len());
     let path = tree.path(4).path(rt.alloc())?;

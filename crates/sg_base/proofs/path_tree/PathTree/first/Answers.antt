@@ -1,4 +1,4 @@
-use Rattle.std.proofs.Common.{◌≡◌, ◌∙◌, length, sym, ap, arith}
+use Rattle.std.proofs.Common.{◌∙◌, length, sym, ap, arith}
 use Rattle.sg_base.specs.PathTree.{PathTreeOf, path_at}
 use Rattle.sg_base.proofs.Trees.{paths_of-length, root_path}
 use Rattle.sg_base.proofs.path_tree.PathTree.first.Goals as goal
