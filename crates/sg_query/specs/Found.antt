@@ -1,8 +1,9 @@
 -- Paths that were found, by their places in a tree of paths.
-use Rattle.std.specs.Prelude.{◌<◌, List, [], ◌∷◌, ◌++◌, length}
+use Rattle.std.specs.Prelude.{◌≡◌, ℕ, ◌<◌, List, [], ◌∷◌, ◌++◌, length, slice_index_or}
 use Rattle.std.specs.List.{AllByRecursion}
 use Rattle.sg_base.specs.declared.scope.Scope.{Scope}
 use Rattle.sg_base.specs.declared.step.Step.{Step}
+use Rattle.sg_base.specs.Path.{shared_len}
 use Rattle.sg_base.specs.PathTree.{PathTreeOf, path_in}
 use Rattle.sg_query.specs.declared.found.Found.{Found}
 use Rattle.sg_query.specs.declared.found_at.FoundAt.{FoundAt}
@@ -23,3 +24,8 @@ found_in t f = record { path = path_in t f.place; datum = f.datum }
 -- each place is one of the tree
 abbrev pub AreThere : {D : Type 0} → PathTreeOf → List (FoundAt D) → Type 0
 AreThere t fs = AllByRecursion (λ f. f.place < length t.paths) fs
+
+-- the paths at two places of a list start at one scope, and so many steps are the same at the beginning of both
+pub record ShareSteps {D : Type 0} (fs : List (Found D)) (j k n : ℕ) : Type 0 where
+  pub start : (f g : Found D) → f ≡ slice_index_or fs j f → g ≡ slice_index_or fs k g → f.path.start ≡ g.path.start
+  pub len : (f g : Found D) → f ≡ slice_index_or fs j f → g ≡ slice_index_or fs k g → n ≡ shared_len f.path.steps g.path.steps

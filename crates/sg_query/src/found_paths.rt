@@ -1,4 +1,5 @@
 ghost use Rattle.std.specs.Prelude.{◌≡◌, ◌<◌, length, slice_index_or, IfOk};
+ghost use Rattle.sg_query.specs.Found.{ShareSteps};
 
 use crate::found_tree::FoundTree;
 use crate::found_view::FoundView;
@@ -51,6 +52,18 @@ impl<D: Drop> FoundPaths<D> {
             path: tree.paths.path(found.place),
             datum: &found.datum,
         }
+    }
+
+    /// How many steps are the same at the beginning of the paths at two indices, which all start at one scope. It takes the
+    /// time of the steps behind the place where the two part in their tree.
+    pub fn shared_len(&self, j: usize, k: usize) -> usize
+        requires first { j < length self.now }
+        requires second { k < length self.now }
+        ensures { ShareSteps self.now j k result }
+    {
+        let tree = &*self.tree;
+        tree.paths
+            .shared_len(tree.found[j].place, tree.found[k].place)
     }
 
     /// The same paths once more, which costs a count: no path is copied. An error where too many share them.

@@ -244,6 +244,13 @@ fn data_of_other_keys_shadow_nothing(rt: HostRuntime) -> Result<(), Fail> {
     ];
     assert!(rt; has_paths(&all, &paths));
     assert!(rt; has_paths(&all.share()?, &paths));
+    let Answer::Paths(found) = &all else {
+        return Err("there are not too many".into());
+    };
+    assert!(rt; found.len() == 3);
+    assert_eq!(rt; found.shared_len(0, 1), 0);
+    assert_eq!(rt; found.shared_len(1, 2), 1);
+    assert_eq!(rt; found.shared_len(2, 2), 3);
     Ok(())
 }
 
