@@ -1,5 +1,5 @@
 -- Which paths a layout's scopes let stand.
-use Rattle.std.specs.Prelude.{ℕ, ◌==◌, Bool, true, false, ◌&&◌, ◌||◌, cond, List, [], ◌∷◌}
+use Rattle.std.specs.Prelude.{ℕ, ◌==◌, Bool, true, false, ◌&&◌, ◌||◌, cond, List, [], ◌∷◌, take}
 use Rattle.sg_base.specs.declared.step.Step.{Step}
 use Rattle.sg_base.specs.Path.{PathOf}
 use Rattle.jv_instance.specs.declared.labels.TheConstants.{PKG, TYPE, SELF, SIMP, PKGOF, ODI, EXT, FIELD, METH, CTOR, SIG}
@@ -119,3 +119,7 @@ is_inside (Signature m) = true
 -- whether each scope of a path is one of the layout, and each step goes between the kinds of scopes that its label joins
 abbrev pub fits : LayoutOf → PathOf → Bool
 fits l p = is_inside (place_of l p.start) && steps_fit l (place_of l p.start) p.steps
+
+-- the path of so many steps at the beginning of another one
+abbrev pub front_of : PathOf → ℕ → PathOf
+front_of p k = record { start = p.start; steps = take k p.steps }

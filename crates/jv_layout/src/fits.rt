@@ -1,7 +1,7 @@
 //! Which paths the scopes of a layout let stand.
 
-ghost use Rattle.std.specs.Prelude.{◌≡◌, ◌<◌};
-ghost use Rattle.jv_layout.specs.Fits.{fits, may_step, is_root, is_package, is_file, is_type, is_member, is_signature, is_member_by, is_inside};
+ghost use Rattle.std.specs.Prelude.{◌≡◌, ◌<◌, ◌≤◌, true, length};
+ghost use Rattle.jv_layout.specs.Fits.{fits, front_of, may_step, is_root, is_package, is_file, is_type, is_member, is_signature, is_member_by, is_inside};
 
 use crate::place::Place;
 use crate::tables::{Layout, label_of};
@@ -75,14 +75,26 @@ impl Layout {
         if matches!(self.place(p.start()), Place::Outside) {
             return false;
         }
+        self.fits_behind(p, 0)
+    }
+
+    /// The same of a path of which so many steps at its beginning are known to fit. It takes time in the number of the steps
+    /// behind them, and no memory.
+    pub fn fits_behind(&self, p: &PathView<'_>, known: usize) -> bool
+        requires within { known ≤ length p.now.steps }
+        requires front { fits self.now (front_of p.now known) ≡ true }
+        ensures { result ≡ fits self.now p.now }
+    {
         let mut at = p.copy();
-        while let Some((before, step)) = at.split_last() {
-            let from = self.place(before.end());
-            let to = self.place(step.to);
-            if !self.may_step(from, step.label.number(), to) {
-                return false;
+        while at.len() > known {
+            if let Some((before, step)) = at.split_last() {
+                let from = self.place(before.end());
+                let to = self.place(step.to);
+                if !self.may_step(from, step.label.number(), to) {
+                    return false;
+                }
+                at = before;
             }
-            at = before;
         }
         true
     }

@@ -1,9 +1,14 @@
-use Rattle.std.proofs.Common.{◌≡◌, length}
+use Rattle.std.proofs.Common.{◌≡◌, ◌≤◌, length, take}
 use Rattle.jv_layout.specs.Fits.{fits}
-use Rattle.jv_layout.proofs.tables.Layout.fits.Given as goal
+use Rattle.jv_layout.proofs.tables.Layout.fits_behind.Given as goal
 
-abbrev pub invariant-loop-before : goal.invariant-loop-before
-invariant-loop-before l = (l.at.start ≡ l.p.start) × (fits l.self l.p ≡ fits l.self l.at)
+abbrev pub invariant-loop-at : goal.invariant-loop-at
+invariant-loop-at l = record {
+  start : l.at.start ≡ l.p.start;
+  same : fits l.self l.p ≡ fits l.self l.at;
+  within : l.known ≤ length l.at.steps;
+  front : take l.known l.at.steps ≡ take l.known l.p.steps;
+}
 
-abbrev pub decreases-loop-before : goal.decreases-loop-before
-decreases-loop-before l = length l.at.steps
+abbrev pub decreases-loop-at : goal.decreases-loop-at
+decreases-loop-at l = length l.at.steps
