@@ -4,6 +4,7 @@ pub mod Dots
 pub mod Ending
 pub mod Outward
 pub mod Paths
+pub mod Along
 pub mod Asking
 pub mod Before
 pub mod Table

@@ -1,5 +1,6 @@
 -- What is read of a path from its end.
-use Rattle.std.proofs.Common.{◌≡◌, Bool, true, false, ◌&&◌, List, [], ◌∷◌, ◌++◌, refl, sym, ap, ◌∙◌}
+use Rattle.std.proofs.Common.{◌≡◌, ℕ, zero, suc, ◌≤◌, Bool, true, false, ◌&&◌, List, [], ◌∷◌, ◌++◌, length, take, refl, sym, ap, ◌∙◌}
+use Rattle.std.proofs.lemmas.List.{take_all}
 use Rattle.std.specs.Prelude.{◌==◌}
 use Rattle.std.specs.List.{list_all}
 use Rattle.std.proofs.lemmas.List.Folds.{list_all-append}
@@ -56,6 +57,21 @@ module _ (f : Scope → Bool) (s t : Scope) (ps qs : List Step) (x : Step) (same
 
 pub left_none : (f : Scope → Bool) (s : Scope) (qs : List Step) → qs ≡ [] → list_all f (left_by s qs) ≡ true
 left_none f s qs e = ap (λ (rs : List Step). list_all f (left_by s rs)) e
+
+-- of what steps leave, what those at the beginning leave
+and_kept : (a b c : Bool) → (a && b) ≡ true → (b ≡ true → c ≡ true) → (a && c) ≡ true
+and_kept true b c h f = f h
+and_kept false b c h f = h
+
+pub left_front : (f : Scope → Bool) (s : Scope) (ps : List Step) (k : ℕ) → list_all f (left_by s ps) ≡ true → list_all f (left_by s (take k ps)) ≡ true
+left_front f s ps zero h = refl
+left_front f s [] (suc k) h = h
+left_front f s (p ∷ ps) (suc k) h = and_kept (f s) (list_all f (left_by p.to ps)) (list_all f (left_by p.to (take k ps))) h (left_front f p.to ps k)
+
+-- steps that are no more than those at the beginning
+pub left_known : (f : Scope → Bool) (s t : Scope) (ps qs : List Step) (k : ℕ) → t ≡ s → take k qs ≡ take k ps → length qs ≤ k → list_all f (left_by s (take k ps)) ≡ true → list_all f (left_by t qs) ≡ true
+left_known f s t ps qs k a e h b =
+    ap (λ (r : Scope). list_all f (left_by r qs)) a ∙ (ap (λ (rs : List Step). list_all f (left_by s rs)) (sym (take_all k qs h) ∙ e) ∙ b)
 
 -- ---- the first step
 

@@ -2,6 +2,7 @@ pub mod Access
 pub mod Ends
 pub mod Inherited
 pub mod Kinds
+pub mod Known
 pub mod Law
 pub mod Members
 pub mod Names

@@ -13,6 +13,8 @@
 mod access;
 mod answers;
 mod context;
+mod counted_ends;
+mod counting;
 mod counts;
 mod ends;
 mod imports;
@@ -20,6 +22,7 @@ mod inheriting;
 mod instances;
 mod kind_table;
 pub mod kinds;
+mod known_paths;
 pub mod laws;
 mod meaning;
 mod members;

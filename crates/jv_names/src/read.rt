@@ -9,7 +9,7 @@ ghost use Rattle.jv_names.specs.Ends.{counted_ends};
 ghost use Rattle.jv_names.specs.Replies.{reply_to};
 ghost use Rattle.jv_names.specs.Read.{base_in, ty_in, signature_in, one_signature, answer_signature, signature_of, one_ctor, answer_ctor, ctor_of};
 
-use crate::answers::counted_end;
+use crate::counted_ends::CountedEnds;
 use crate::counts::Counts;
 use crate::kinds;
 use crate::oracle::Oracle;
@@ -136,12 +136,11 @@ fn one_ctor(l: &Layout, paths: &FoundPaths<JavaDatum>) -> Option<Scope>
     ensures { result ≡ one_ctor l.now (counted_ends l.now Constructors paths.now) }
 {
     let mut first = None;
-    for k in 0..paths.len() {
-        if let Some(end) = counted_end(l, Counts::Constructors, paths, k) {
-            match first {
-                None => first = Some(end),
-                Some(_) => return None,
-            }
+    let mut ends = CountedEnds::new(l, Counts::Constructors, paths);
+    while let Some(end) = ends.next() {
+        match first {
+            None => first = Some(end),
+            Some(_) => return None,
         }
     }
     first

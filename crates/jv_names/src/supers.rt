@@ -7,7 +7,7 @@ ghost use Rattle.jv_names.specs.Ends.{counted_ends};
 ghost use Rattle.jv_names.specs.Read.{answer_supers, with_object, supers_of};
 ghost use Rattle.jv_names.specs.Replies.{reply_to};
 
-use crate::answers::counted_end;
+use crate::counted_ends::CountedEnds;
 use crate::counts::Counts;
 use crate::kinds;
 use crate::oracle::Oracle;
@@ -29,10 +29,9 @@ fn path_supers(
     ensures { IfOk result (λ supers. supers ≡ counted_ends l.now Supertypes paths.now) }
 {
     let mut supers = ScopeList::empty(alloc);
-    for k in 0..paths.len() {
-        if let Some(end) = counted_end(l, Counts::Supertypes, paths, k) {
-            supers.push(end)?;
-        }
+    let mut ends = CountedEnds::new(l, Counts::Supertypes, paths);
+    while let Some(end) = ends.next() {
+        supers.push(end)?;
     }
     Ok(supers)
 }

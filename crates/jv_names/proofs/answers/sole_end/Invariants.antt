@@ -1,7 +1,10 @@
-use Rattle.std.proofs.Common.{◌≡◌, drop}
+use Rattle.std.proofs.Common.{◌≡◌, length}
 use Rattle.jv_names.specs.Ends.{counted_ends, meaning_of}
 use Rattle.jv_names.proofs.Ending.{meaning_from}
 use Rattle.jv_names.proofs.answers.sole_end.Given as goal
 
-abbrev pub invariant-loop-k : goal.invariant-loop-k
-invariant-loop-k l = meaning_of (counted_ends l.l l.counts l.paths) ≡ meaning_from l.first (counted_ends l.l l.counts (drop l.k l.paths))
+abbrev pub invariant-loop-end : goal.invariant-loop-end
+invariant-loop-end l = meaning_of (counted_ends l.l l.fn.counts l.paths) ≡ meaning_from l.first l.ends
+
+abbrev pub decreases-loop-end : goal.decreases-loop-end
+decreases-loop-end l = length l.ends

@@ -1,13 +1,14 @@
-use Rattle.std.proofs.Common.{◌≡◌, length}
-use Rattle.std.specs.List.{list_all}
-use Rattle.sg_base.specs.Scope.{is_scope}
-use Rattle.jv_layout.specs.Readers.{package_of}
-use Rattle.jv_names.specs.Inherited.{left_by}
-use Rattle.jv_names.proofs.inheriting.stays_in_package.Given as goal
+use Rattle.std.proofs.Common.{◌≡◌, ◌≤◌, length, take}
+use Rattle.jv_names.specs.Inherited.{lies_in}
+use Rattle.jv_names.proofs.inheriting.stays_behind.Given as goal
 
-abbrev pub invariant-loop-before : goal.invariant-loop-before
-invariant-loop-before l =
-    list_all (λ t. is_scope (package_of l.l t) l.home) (left_by l.path.start l.path.steps) ≡ list_all (λ t. is_scope (package_of l.l t) l.home) (left_by l.at.start l.at.steps)
+abbrev pub invariant-loop-at : goal.invariant-loop-at
+invariant-loop-at l = record {
+  start : l.at.start ≡ l.path.start;
+  same : lies_in l.l l.home l.path.start l.path.steps ≡ lies_in l.l l.home l.at.start l.at.steps;
+  within : l.known ≤ length l.at.steps;
+  front : take l.known l.at.steps ≡ take l.known l.path.steps;
+}
 
-abbrev pub decreases-loop-before : goal.decreases-loop-before
-decreases-loop-before l = length l.at.steps
+abbrev pub decreases-loop-at : goal.decreases-loop-at
+decreases-loop-at l = length l.at.steps
