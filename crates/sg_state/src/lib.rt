@@ -31,4 +31,6 @@ pub use need::Need;
 pub use opening::Opening;
 
 #[cfg(test)]
+mod scripts;
+#[cfg(test)]
 mod tests;

@@ -2,7 +2,7 @@ use Rattle.std.specs.Prelude.{ℕ, List, [], ◌∷◌, ◌<◌, length}
 use Rattle.std.proofs.Common.{slice_index_or, arith}
 use Rattle.std.specs.List.{Contains}
 use Rattle.sg_base.proofs.Finite.{Contains-head}
-use Rattle.sg_state.proofs.tests.first_holder.Goals as goal
+use Rattle.sg_state.proofs.scripts.first_holder.Goals as goal
 
 -- the first thing of a list is in it
 first_in : (xs : List ℕ) → 0 < length xs → Contains xs (slice_index_or xs 0 0)
