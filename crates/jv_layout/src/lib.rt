@@ -26,11 +26,7 @@ mod place;
 pub mod prelude;
 mod readers;
 mod rows;
-#[cfg(test)]
-mod small_folder;
 mod tables;
-#[cfg(test)]
-mod tests;
 mod titles;
 mod type_texts;
 pub mod words;

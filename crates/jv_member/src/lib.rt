@@ -24,8 +24,6 @@ mod members;
 mod pairs;
 mod placed;
 mod signature;
-#[cfg(test)]
-mod tests;
 mod whole_methods;
 mod written_types;
 

@@ -26,8 +26,6 @@ mod known_paths;
 pub mod laws;
 mod meaning;
 mod members;
-#[cfg(test)]
-mod name_tests;
 mod oracle;
 mod orders;
 mod part;
@@ -35,22 +33,14 @@ mod parts;
 mod qualifier;
 mod queries;
 mod read;
-#[cfg(test)]
-mod read_tests;
 mod reference;
 mod resolved;
 mod results;
 mod scope_list;
 mod signature_types;
-#[cfg(test)]
-mod small_folder;
-#[cfg(test)]
-mod small_replies;
 mod spot;
 mod superclass;
 mod supers;
-#[cfg(test)]
-mod tests;
 mod type_names;
 mod words;
 mod writing;

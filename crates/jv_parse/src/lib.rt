@@ -10,8 +10,6 @@ pub mod laws;
 mod naming;
 mod parse_fault;
 mod parser;
-#[cfg(test)]
-mod tests;
 
 pub use parse_fault::ParseFault;
 pub use parser::{PARSE_STACK, parse};

@@ -15,8 +15,6 @@ mod names;
 pub mod nodes;
 mod spine;
 mod statement;
-#[cfg(test)]
-mod tests;
 mod type_ref;
 
 pub use declaration::{Ctor, Import, Member, Method, Mods, Param, TypeDecl, Unit};

@@ -15,10 +15,6 @@ mod listed;
 mod listing;
 mod members;
 mod questions;
-#[cfg(test)]
-mod small_folder;
-#[cfg(test)]
-mod tests;
 mod titles;
 mod words;
 

@@ -24,6 +24,3 @@ mod workers;
 pub use progress::Progress;
 pub use task::Task;
 pub use workers::run;
-
-#[cfg(test)]
-mod tests;

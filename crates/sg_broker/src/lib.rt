@@ -16,6 +16,3 @@ mod unit_seat;
 pub use broker::Broker;
 pub use threads::run_threads;
 pub use unit_seat::UnitSeat;
-
-#[cfg(test)]
-mod tests;

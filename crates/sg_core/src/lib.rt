@@ -27,6 +27,3 @@ mod writing;
 pub use ask_state::AskState;
 pub use machine::Core;
 pub use phase::Phase;
-
-#[cfg(test)]
-mod tests;

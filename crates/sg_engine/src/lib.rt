@@ -23,6 +23,3 @@ mod work;
 
 pub use progress::Progress;
 pub use search::Search;
-
-#[cfg(test)]
-mod tests;

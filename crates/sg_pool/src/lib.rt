@@ -21,6 +21,3 @@ pub use doing::Doing;
 pub use pool::run_pool;
 pub use running::{Running, step};
 pub use seating::seat_all;
-
-#[cfg(test)]
-mod tests;

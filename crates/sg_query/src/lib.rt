@@ -21,8 +21,6 @@ mod plain;
 mod query;
 mod shadow;
 mod steps;
-#[cfg(test)]
-mod tests;
 mod walk;
 
 pub use answer::Answer;

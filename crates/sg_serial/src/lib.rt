@@ -9,6 +9,3 @@ mod pushing;
 mod serial;
 
 pub use serial::run_serial;
-
-#[cfg(test)]
-mod tests;

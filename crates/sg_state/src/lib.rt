@@ -29,8 +29,3 @@ pub use datum_state::DatumState;
 pub use held::Held;
 pub use need::Need;
 pub use opening::Opening;
-
-#[cfg(test)]
-mod scripts;
-#[cfg(test)]
-mod tests;

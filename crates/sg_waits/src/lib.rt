@@ -19,6 +19,3 @@ mod woken;
 pub use shown::{Shown, ShownItem, ShownItems};
 pub use waits::Waits;
 pub use woken::Woken;
-
-#[cfg(test)]
-mod tests;

@@ -1,0 +1,166 @@
+//! A small folder by its trees.
+
+use jv_tree::nodes::{
+    class_or_interface, constructor, constructor_member, field_member, method, method_member,
+    nested, type_ref, unit, variable,
+};
+use jv_tree::{Base, Ident, Member, Mods, Name, NameId, Names, TypeDecl, Unit};
+use sg_base::Scope;
+use std::alloc::Global;
+use std::test::Fail;
+
+/// The texts of the names, by their numbers.
+const TEXTS: [&str; 11] = [
+    "java", "lang", "Object", "String", "p", "A", "B", "x", "m", "I", "p$",
+];
+
+const JAVA: u32 = 0;
+
+const LANG: u32 = 1;
+
+const OBJECT: u32 = 2;
+
+const STRING: u32 = 3;
+
+const P: u32 = 4;
+
+const A: u32 = 5;
+
+const B: u32 = 6;
+
+const X: u32 = 7;
+
+const M: u32 = 8;
+
+const I: u32 = 9;
+
+const P_DOLLAR: u32 = 10;
+
+/// The names of the small folder.
+pub fn small_names(alloc: Global) -> Result<Names, Fail> {
+    let mut names = Names::new(alloc);
+    for text in TEXTS {
+        if names.len() < 100 {
+            names.intern(text)?;
+        }
+    }
+    Ok(names)
+}
+
+fn ident(number: u32) -> Ident {
+    Ident {
+        at: 0,
+        id: NameId(number),
+    }
+}
+
+fn mods(alloc: Global, words: &[u8]) -> Result<Mods, Fail> {
+    Ok(Mods {
+        words: Vec::from_slice(alloc, words)?,
+    })
+}
+
+fn field_of(alloc: Global, number: u32) -> Result<Member, Fail> {
+    let variables = vec![in alloc; variable(ident(number), None)]?;
+    Ok(field_member(mods(alloc, &[])?, type_ref(0, Base::Int, 0), variables))
+}
+
+fn method_of(alloc: Global, number: u32) -> Result<Member, Fail> {
+    let ty = type_ref(0, Base::Int, 0);
+    let of = method(mods(alloc, &[])?, ty, ident(number), vec![in alloc]?, None);
+    Ok(method_member(of))
+}
+
+fn constructor_of(alloc: Global, number: u32) -> Result<Member, Fail> {
+    let of = constructor(
+        mods(alloc, &[])?,
+        ident(number),
+        vec![in alloc]?,
+        None,
+        vec![in alloc]?,
+    );
+    Ok(constructor_member(of))
+}
+
+fn type_of(
+    alloc: Global,
+    number: u32,
+    interface: bool,
+    members: Vec<Member>,
+) -> Result<TypeDecl, Fail> {
+    Ok(class_or_interface(
+        ident(number),
+        mods(alloc, &[])?,
+        interface,
+        vec![in alloc]?,
+        vec![in alloc]?,
+        members,
+    ))
+}
+
+/// `class A { int x; class B { B() {} } int x; int x(); int m(); }`
+fn outer_class(alloc: Global) -> Result<TypeDecl, Fail> {
+    let inner = type_of(alloc, B, false, vec![in alloc; constructor_of(alloc, B)?]?)?;
+    let members = vec![in alloc;
+        field_of(alloc, X)?,
+        nested(inner),
+        field_of(alloc, X)?,
+        method_of(alloc, X)?,
+        method_of(alloc, M)?,
+    ]?;
+    type_of(alloc, A, false, members)
+}
+
+/// `interface I { int x; class B {} }`
+fn outer_interface(alloc: Global) -> Result<TypeDecl, Fail> {
+    let inner = type_of(alloc, B, false, vec![in alloc]?)?;
+    let members = vec![in alloc; field_of(alloc, X)?, nested(inner)]?;
+    type_of(alloc, I, true, members)
+}
+
+fn file_in(alloc: Global, package: &[u32], types: Vec<TypeDecl>) -> Result<Unit, Fail> {
+    let mut ids = Vec::new(alloc);
+    for number in package {
+        ids.push(ident(*number))?;
+    }
+    Ok(unit(Some(Name { ids }), vec![in alloc]?, types))
+}
+
+/// Four files: `package java.lang; class Object { int m(); }`, `package java.lang; class String {}`,
+/// `package p; class A { int x; class B { B() {} } int x; int x(); int m(); } class A {}` and
+/// `interface I { int x; class B {} }`.
+pub fn small_files(alloc: Global) -> Result<Vec<Unit>, Fail> {
+    let object = type_of(alloc, OBJECT, false, vec![in alloc; method_of(alloc, M)?]?)?;
+    let string = type_of(alloc, STRING, false, vec![in alloc]?)?;
+    let again = type_of(alloc, A, false, vec![in alloc]?)?;
+    let classes = vec![in alloc; outer_class(alloc)?, again]?;
+    let interfaces = vec![in alloc; outer_interface(alloc)?]?;
+    let files = vec![in alloc;
+        file_in(alloc, &[JAVA, LANG], vec![in alloc; object]?)?,
+        file_in(alloc, &[JAVA, LANG], vec![in alloc; string]?)?,
+        file_in(alloc, &[P], classes)?,
+        unit(None, vec![in alloc]?, interfaces),
+    ]?;
+    Ok(files)
+}
+
+/// Files without types, of the packages `p.x.m`, `p$.x`, `p.A`, `p`, `p$` and again `p.x.m`.
+pub fn files_of_packages(alloc: Global) -> Result<Vec<Unit>, Fail> {
+    let files = vec![in alloc;
+        file_in(alloc, &[P, X, M], vec![in alloc]?)?,
+        file_in(alloc, &[P_DOLLAR, X], vec![in alloc]?)?,
+        file_in(alloc, &[P, A], vec![in alloc]?)?,
+        file_in(alloc, &[P], vec![in alloc]?)?,
+        file_in(alloc, &[P_DOLLAR], vec![in alloc]?)?,
+        file_in(alloc, &[P, X, M], vec![in alloc]?)?,
+    ]?;
+    Ok(files)
+}
+
+/// The scope with a serial.
+pub fn scope_at(serial: u32) -> Scope {
+    Scope {
+        unit: u32::MAX,
+        serial,
+    }
+}

@@ -1,0 +1,330 @@
+//! A small folder, whose scopes, edges and titles are worked out by hand.
+//!
+//! Its scopes are the root 0, the unnamed package 1, the packages 2 `java`, 3 `java.lang` and 4 `p`, the files 5 to 8, the
+//! types 9 `Object`, 10 `String`, 11 `A`, 12 `A.B`, 13 `A` again, 14 `I` and 15 `I.B`, twelve members from 16 on, and
+//! their signatures from 28 on.
+
+use crate::small_folder::{files_of_packages, scope_at, small_files, small_names};
+use jv_instance::{JavaDatum, Ty, TypeBase, labels};
+use jv_layout::{Layout, LayoutFault, Place, is_folder, layout};
+use jv_tree::{NameId, Unit};
+use sg_base::Scope;
+use sg_state::Opening;
+use std::alloc::Global;
+use std::fmt::Write;
+use std::test::Fail;
+
+#[test]
+fn faults_differ(rt: HostRuntime) {
+    assert!(rt; LayoutFault::TooManyTypes != LayoutFault::OutOfMemory);
+}
+
+fn small_layout(alloc: Global) -> Result<Layout, Fail> {
+    layout_of(alloc, small_files(alloc)?)
+}
+
+fn layout_of(alloc: Global, files: Vec<Unit>) -> Result<Layout, Fail> {
+    let names = small_names(alloc)?;
+    if !is_folder(&files) {
+        return Err(Fail::new("too many names"));
+    }
+    Ok(layout(alloc, &names, &files)?)
+}
+
+/// The serials of scopes.
+fn serials(alloc: Global, scopes: &[Scope]) -> Result<String, Fail> {
+    let mut text = String::new(alloc);
+    for scope in scopes {
+        write!(text, "{} ", scope.serial)?;
+    }
+    Ok(text)
+}
+
+const PLACES: [(u32, Place); 13] = [
+    (0, Place::Root),
+    (1, Place::Unnamed),
+    (2, Place::Package(0)),
+    (4, Place::Package(2)),
+    (5, Place::File(0)),
+    (8, Place::File(3)),
+    (9, Place::Ty(0)),
+    (15, Place::Ty(6)),
+    (16, Place::Member(0)),
+    (27, Place::Member(11)),
+    (28, Place::Signature(0)),
+    (39, Place::Signature(11)),
+    (40, Place::Outside),
+];
+
+#[test]
+fn scopes_stand_in_order(rt: HostRuntime) -> Result<(), Fail> {
+    let layout = small_layout(rt.alloc())?;
+    for (serial, wanted) in PLACES {
+        assert_eq!(rt; layout.place(scope_at(serial)), wanted, "{serial}");
+    }
+    let types = serials(rt.alloc(), layout.types())?;
+    assert_eq!(rt; types.as_str(), "9 10 11 12 13 14 15 ");
+    Ok(())
+}
+
+/// The members of each type, and of scopes that are none.
+const MEMBERS: [(u32, &str); 10] = [
+    (0, ""),
+    (7, ""),
+    (9, "16 17 "),
+    (10, "18 "),
+    (11, "19 20 22 23 24 "),
+    (12, "21 "),
+    (13, "25 "),
+    (14, "26 "),
+    (15, "27 "),
+    (16, ""),
+];
+
+#[test]
+fn types_have_their_members(rt: HostRuntime) -> Result<(), Fail> {
+    let layout = small_layout(rt.alloc())?;
+    for (serial, wanted) in MEMBERS {
+        let found = serials(rt.alloc(), layout.members(scope_at(serial)))?;
+        assert_eq!(rt; found.as_str(), wanted, "{serial}");
+    }
+    Ok(())
+}
+
+const TITLES: [(u32, &str); 16] = [
+    (0, "(root)"),
+    (1, "(unnamed)"),
+    (2, "java"),
+    (3, "java.lang"),
+    (5, ""),
+    (9, "java.lang.Object"),
+    (12, "p.A.B"),
+    (13, "p.A"),
+    (15, "I.B"),
+    (16, "java.lang.Object#new"),
+    (17, "java.lang.Object#m()"),
+    (21, "p.A.B#new"),
+    (22, "p.A#x"),
+    (23, "p.A#x()"),
+    (38, "I#x!"),
+    (40, ""),
+];
+
+#[test]
+fn scopes_have_titles(rt: HostRuntime) -> Result<(), Fail> {
+    let layout = small_layout(rt.alloc())?;
+    let names = small_names(rt.alloc())?;
+    for (serial, wanted) in TITLES {
+        let found = layout.title(rt.alloc(), &names, scope_at(serial))?;
+        assert_eq!(rt; found.as_str(), wanted, "{serial}");
+    }
+    Ok(())
+}
+
+/// A class by its serial and its brackets, and its text.
+const CLASS_TEXTS: [(u32, u8, &str); 5] = [
+    (9, 0, "java.lang.Object"),
+    (12, 0, "p.A.B"),
+    (13, 1, "p.A[]"),
+    (15, 2, "I.B[][]"),
+    (40, 1, "[]"),
+];
+
+#[test]
+fn classes_have_texts(rt: HostRuntime) -> Result<(), Fail> {
+    let layout = small_layout(rt.alloc())?;
+    let names = small_names(rt.alloc())?;
+    for (serial, dims, wanted) in CLASS_TEXTS {
+        let base = TypeBase::Class(scope_at(serial));
+        let found = layout.type_text(rt.alloc(), &names, Ty { base, dims })?;
+        assert_eq!(rt; found.as_str(), wanted, "{serial}");
+    }
+    Ok(())
+}
+
+/// A base that is no class and its brackets, and its text.
+const PLAIN_TEXTS: [(TypeBase, u8, &str); 8] = [
+    (TypeBase::Boolean, 0, "boolean"),
+    (TypeBase::Char, 1, "char[]"),
+    (TypeBase::Int, 0, "int"),
+    (TypeBase::Long, 3, "long[][][]"),
+    (TypeBase::Null, 0, "null"),
+    (TypeBase::Void, 0, "void"),
+    (TypeBase::Bad, 0, "?"),
+    (TypeBase::Bad, 2, "?"),
+];
+
+#[test]
+fn plain_types_have_texts(rt: HostRuntime) -> Result<(), Fail> {
+    let layout = small_layout(rt.alloc())?;
+    let names = small_names(rt.alloc())?;
+    for (base, dims, wanted) in PLAIN_TEXTS {
+        let found = layout.type_text(rt.alloc(), &names, Ty { base, dims })?;
+        assert_eq!(rt; found.as_str(), wanted);
+    }
+    Ok(())
+}
+
+/// The numbers of simple names.
+const SIMPLE_NAMES: [(u32, Option<u32>); 13] = [
+    (0, None),
+    (1, None),
+    (2, Some(0)),
+    (3, Some(1)),
+    (5, None),
+    (9, Some(2)),
+    (12, Some(6)),
+    (13, Some(5)),
+    (17, Some(8)),
+    (21, Some(6)),
+    (22, Some(7)),
+    (28, None),
+    (40, None),
+];
+
+#[test]
+fn scopes_have_simple_names(rt: HostRuntime) -> Result<(), Fail> {
+    let layout = small_layout(rt.alloc())?;
+    for (serial, wanted) in SIMPLE_NAMES {
+        let found = layout.simple_name(scope_at(serial));
+        assert_eq!(rt; found.map(|name| name.0), wanted, "{serial}");
+    }
+    Ok(())
+}
+
+#[test]
+fn a_second_class_and_a_second_field_are_duplicates(rt: HostRuntime) -> Result<(), Fail> {
+    let layout = small_layout(rt.alloc())?;
+    let declarations = layout.declarations(rt.alloc())?;
+    let mut text = String::new(rt.alloc());
+    for serial in 0..41 {
+        if declarations.is_duplicate(&layout, scope_at(serial)) {
+            write!(text, "{} ", serial)?;
+        }
+    }
+    assert_eq!(rt; text.as_str(), "13 22 ");
+    Ok(())
+}
+
+/// Scopes and numbers of names, and whether a package stands there.
+const SUBPACKAGES: [(u32, u32, bool); 8] = [
+    (0, 0, true),
+    (0, 1, false),
+    (0, 4, true),
+    (1, 4, false),
+    (2, 0, false),
+    (2, 1, true),
+    (3, 1, false),
+    (40, 0, false),
+];
+
+#[test]
+fn packages_have_their_subpackages(rt: HostRuntime) -> Result<(), Fail> {
+    let declarations = small_layout(rt.alloc())?.declarations(rt.alloc())?;
+    for (serial, name, wanted) in SUBPACKAGES {
+        let found = declarations.has_subpackage(scope_at(serial), NameId(name));
+        assert_eq!(rt; found, wanted, "{serial} {name}");
+    }
+    Ok(())
+}
+
+/// The edges with a label, each as the serials of its scopes.
+fn edges_by(alloc: Global, opening: &Opening<JavaDatum>, label: u8) -> Result<String, Fail> {
+    let mut text = String::new(alloc);
+    for (from, by, to) in &opening.edges {
+        if by.number() == label {
+            write!(text, "{}-{} ", from.serial, to.serial)?;
+        }
+    }
+    Ok(text)
+}
+
+/// A second class `A` and a second field `x` have no edge.
+const EDGES: [(u8, &str); 11] = [
+    (labels::PKG, "0-2 2-3 0-4 "),
+    (labels::PKGOF, "5-3 6-3 7-4 8-1 "),
+    (labels::ODI, "5-3 6-3 7-3 8-3 "),
+    (labels::TYPE, "3-9 3-10 4-11 11-12 1-14 14-15 "),
+    (labels::SELF, "5-9 6-10 7-11 8-14 "),
+    (labels::FIELD, "11-20 14-26 "),
+    (labels::METH, "9-17 11-23 11-24 "),
+    (labels::CTOR, "9-16 10-18 11-19 12-21 13-25 15-27 "),
+    (
+        labels::SIG,
+        "16-28 17-29 18-30 19-31 20-32 21-33 22-34 23-35 24-36 25-37 26-38 27-39 ",
+    ),
+    (labels::EXT, ""),
+    (labels::SIMP, ""),
+];
+
+#[test]
+fn an_opening_has_its_edges(rt: HostRuntime) -> Result<(), Fail> {
+    let opening = small_layout(rt.alloc())?.opening(rt.alloc())?;
+    assert_eq!(rt; opening.scopes.len(), 40);
+    for (label, wanted) in EDGES {
+        let found = edges_by(rt.alloc(), &opening, label)?;
+        assert_eq!(rt; found.as_str(), wanted, "{label}");
+    }
+    Ok(())
+}
+
+/// The rows that units hold, each as the unit, the scope's serial and the label.
+fn rows_held(alloc: Global, opening: &Opening<JavaDatum>) -> Result<String, Fail> {
+    let mut text = String::new(alloc);
+    for (unit, scope, label) in &opening.row_holds {
+        write!(text, "{}:{}-{} ", *unit, scope.serial, label.number())?;
+    }
+    Ok(text)
+}
+
+/// The data that units hold, each as the unit and the scope's serial.
+fn data_held(alloc: Global, opening: &Opening<JavaDatum>) -> Result<String, Fail> {
+    let mut text = String::new(alloc);
+    for (unit, scope) in &opening.datum_holds {
+        write!(text, "{}:{} ", *unit, scope.serial)?;
+    }
+    Ok(text)
+}
+
+const ROWS: &str =
+    "0:5-3 0:5-5 1:6-3 1:6-5 2:7-3 2:7-5 3:8-3 3:8-5 4:9-6 5:10-6 6:11-6 7:12-6 8:13-6 9:14-6 10:15-6 ";
+
+const DATA: &str = "4:28 4:29 5:30 6:31 6:32 7:33 6:34 6:35 6:36 8:37 9:38 10:39 ";
+
+#[test]
+fn units_hold_rows_and_data(rt: HostRuntime) -> Result<(), Fail> {
+    let opening = small_layout(rt.alloc())?.opening(rt.alloc())?;
+    assert_eq!(rt; opening.units, 11);
+    assert_eq!(rt; opening.given.len(), 22);
+    let rows = rows_held(rt.alloc(), &opening)?;
+    assert_eq!(rt; rows.as_str(), ROWS);
+    let data = data_held(rt.alloc(), &opening)?;
+    assert_eq!(rt; data.as_str(), DATA);
+    Ok(())
+}
+
+/// The packages stand by dotted name, byte by byte, and a dollar sign is before a dot.
+const DOTTED_NAMES: [(u32, &str); 6] = [
+    (2, "p"),
+    (3, "p$"),
+    (4, "p$.x"),
+    (5, "p.A"),
+    (6, "p.x"),
+    (7, "p.x.m"),
+];
+
+#[test]
+fn packages_stand_by_dotted_name(rt: HostRuntime) -> Result<(), Fail> {
+    let layout = layout_of(rt.alloc(), files_of_packages(rt.alloc())?)?;
+    let names = small_names(rt.alloc())?;
+    for (serial, wanted) in DOTTED_NAMES {
+        let found = layout.title(rt.alloc(), &names, scope_at(serial))?;
+        assert_eq!(rt; found.as_str(), wanted, "{serial}");
+    }
+    let opening = layout.opening(rt.alloc())?;
+    let enclosed = edges_by(rt.alloc(), &opening, labels::PKG)?;
+    assert_eq!(rt; enclosed.as_str(), "0-2 0-3 3-4 2-5 2-6 6-7 ");
+    let files = edges_by(rt.alloc(), &opening, labels::PKGOF)?;
+    assert_eq!(rt; files.as_str(), "8-7 9-4 10-5 11-2 12-3 13-7 ");
+    Ok(())
+}

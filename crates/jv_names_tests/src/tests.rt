@@ -1,0 +1,87 @@
+//! The kinds of queries, and names in the small folder, worked out by hand.
+
+use jv_instance::labels;
+use jv_names::java_kinds;
+use jv_names::kinds::{
+    ABOVE, CTORS, FIELDS, FILETYPE, MEMTYPE, METHODS, OWNTYPE, SIG, SUBPKG, SUPERS,
+};
+use sg_base::{Label, Mark};
+use sg_expr::Expr;
+use std::alloc::Global;
+use std::test::Fail;
+
+/// Whether a word belongs to an expression.
+fn has_word(alloc: Global, expr: &Expr, word: &[u8]) -> Result<bool, Fail> {
+    let mut rest = expr.copy(alloc)?;
+    for number in word {
+        if *number < 16 {
+            rest = rest.after(alloc, Label::new(*number))?;
+        }
+    }
+    Ok(rest.nullable())
+}
+
+const WORDS: [(u8, &[u8], bool); 23] = [
+    (SUBPKG, &[labels::PKG], true),
+    (SUBPKG, &[labels::PKG, labels::PKG], false),
+    (OWNTYPE, &[labels::TYPE], true),
+    (OWNTYPE, &[labels::EXT, labels::TYPE], false),
+    (MEMTYPE, &[labels::TYPE], true),
+    (MEMTYPE, &[labels::EXT, labels::EXT, labels::TYPE], true),
+    (MEMTYPE, &[labels::EXT], false),
+    (FILETYPE, &[labels::SELF], true),
+    (FILETYPE, &[labels::SIMP], true),
+    (FILETYPE, &[labels::PKGOF, labels::TYPE], true),
+    (FILETYPE, &[labels::ODI, labels::TYPE], true),
+    (FILETYPE, &[labels::ODI], false),
+    (FIELDS, &[labels::EXT, labels::FIELD], true),
+    (FIELDS, &[labels::EXT, labels::METH], false),
+    (METHODS, &[labels::METH], true),
+    (ABOVE, &[labels::METH], false),
+    (ABOVE, &[labels::EXT, labels::EXT, labels::METH], true),
+    (CTORS, &[labels::CTOR], true),
+    (CTORS, &[labels::EXT, labels::CTOR], false),
+    (SIG, &[labels::SIG], true),
+    (SUPERS, &[], true),
+    (SUPERS, &[labels::EXT, labels::EXT], true),
+    (SUPERS, &[labels::TYPE], false),
+];
+
+#[test]
+fn kinds_follow_their_words(rt: HostRuntime) -> Result<(), Fail> {
+    let table = java_kinds(rt.alloc())?;
+    assert_eq!(rt; table.len(), 10);
+    for (kind, word, wanted) in WORDS {
+        assert!(rt; kind < table.len());
+        let found = has_word(rt.alloc(), &table.kind(kind).expr, word)?;
+        assert_eq!(rt; found, wanted, "{kind}");
+    }
+    Ok(())
+}
+
+const ORDERS: [(u8, u8, u8, bool); 12] = [
+    (SUBPKG, labels::PKG, labels::TYPE, false),
+    (MEMTYPE, labels::TYPE, labels::EXT, true),
+    (MEMTYPE, labels::EXT, labels::TYPE, false),
+    (FILETYPE, labels::SELF, labels::SIMP, true),
+    (FILETYPE, labels::SIMP, labels::PKGOF, true),
+    (FILETYPE, labels::SELF, labels::ODI, true),
+    (FILETYPE, labels::ODI, labels::PKGOF, false),
+    (FIELDS, labels::FIELD, labels::EXT, true),
+    (METHODS, labels::METH, labels::EXT, true),
+    (METHODS, labels::FIELD, labels::EXT, false),
+    (ABOVE, labels::METH, labels::EXT, true),
+    (SUPERS, labels::EXT, labels::EXT, false),
+];
+
+#[test]
+fn kinds_order_their_labels(rt: HostRuntime) -> Result<(), Fail> {
+    let table = java_kinds(rt.alloc())?;
+    for (kind, first, second, wanted) in ORDERS {
+        assert!(rt; kind < table.len() && first < 16 && second < 16);
+        let order = &table.kind(kind).order;
+        let found = order.before(Mark::Of(Label::new(first)), Mark::Of(Label::new(second)));
+        assert_eq!(rt; found, wanted, "{kind}: {first} {second}");
+    }
+    Ok(())
+}
