@@ -181,45 +181,40 @@ fn ones_and_zero(alloc: Global) -> Result<Expr, AllocError> {
     Ok(Expr::Seq(Box::new(alloc, ones)?, Box::new(alloc, zero)?))
 }
 
-#[test]
-fn the_nearest_of_equal_data_is_visible(rt: HostRuntime) -> Result<(), Fail> {
-    let alloc = rt.alloc();
-    let edges = [(0, 1, 1), (0, 0, 2), (1, 0, 3)];
+/// Whether the answer in a graph of two ways, over label 0 to the datum 7 and over labels 1 and 0 to another one, is that of
+/// these paths. Label 0 comes first, or there is no order.
+fn shows(
+    alloc: Global,
+    other: u64,
+    is_ordered: bool,
+    pred: Wanted,
+    paths: &[(&[(u8, u32)], u64)],
+) -> Result<bool, Fail> {
     let zero_first = [(Mark::Of(Label::new(0)), Mark::Of(Label::new(1)))];
-    let same = graph_of(alloc, &edges, &[(2, 7), (3, 7)])?;
-    let other = graph_of(alloc, &edges, &[(2, 7), (3, 8)])?;
-    let near = answer(
+    let order: &[(Mark, Mark)] = if is_ordered { &zero_first } else { &[] };
+    let graph = graph_of(
         alloc,
-        &same,
-        ones_and_zero(alloc)?,
-        &zero_first,
-        Wanted::Is(7),
+        &[(0, 1, 1), (0, 0, 2), (1, 0, 3)],
+        &[(2, 7), (3, other)],
     )?;
-    assert!(rt; has_paths(&near, &[(&[(0, 2)], 7)]));
-    let unordered = answer(alloc, &same, ones_and_zero(alloc)?, &[], Wanted::Is(7))?;
-    assert!(rt; has_paths(&unordered, &[(&[(0, 2)], 7), (&[(1, 1), (0, 3)], 7)]));
-    let both = answer(
-        alloc,
-        &other,
-        ones_and_zero(alloc)?,
-        &zero_first,
-        Wanted::Any,
-    )?;
-    assert!(rt; has_paths(&both, &[(&[(0, 2)], 7), (&[(1, 1), (0, 3)], 8)]));
-    let one = answer(
-        alloc,
-        &other,
-        ones_and_zero(alloc)?,
-        &zero_first,
-        Wanted::Is(8),
-    )?;
-    assert!(rt; has_paths(&one, &[(&[(1, 1), (0, 3)], 8)]));
-    Ok(())
+    let found = answer(alloc, &graph, ones_and_zero(alloc)?, order, pred)?;
+    Ok(has_paths(&found, paths))
 }
 
 #[test]
-fn data_of_other_keys_shadow_nothing(rt: HostRuntime) -> Result<(), Fail> {
+fn the_nearest_of_equal_data_is_visible(rt: HostRuntime) -> Result<(), Fail> {
     let alloc = rt.alloc();
+    let near: (&[(u8, u32)], u64) = (&[(0, 2)], 7);
+    let far: &[(u8, u32)] = &[(1, 1), (0, 3)];
+    assert!(rt; shows(alloc, 7, true, Wanted::Is(7), &[near])?);
+    assert!(rt; shows(alloc, 7, false, Wanted::Is(7), &[near, (far, 7)])?);
+    assert!(rt; shows(alloc, 8, true, Wanted::Any, &[near, (far, 8)])?);
+    assert!(rt; shows(alloc, 8, true, Wanted::Is(8), &[(far, 8)])?);
+    Ok(())
+}
+
+/// The answer in a graph in which three paths reach data of three keys, and a fourth a datum that a nearer one has too.
+fn three_keys(alloc: Global) -> Result<Answer<u64>, Fail> {
     let edges = [
         (0, 1, 1),
         (0, 0, 2),
@@ -230,13 +225,18 @@ fn data_of_other_keys_shadow_nothing(rt: HostRuntime) -> Result<(), Fail> {
     ];
     let graph = graph_of(alloc, &edges, &[(2, 7), (3, 8), (5, 7), (6, 9)])?;
     let zero_first = [(Mark::Of(Label::new(0)), Mark::Of(Label::new(1)))];
-    let all = answer(
+    answer(
         alloc,
         &graph,
         ones_and_zero(alloc)?,
         &zero_first,
         Wanted::Any,
-    )?;
+    )
+}
+
+#[test]
+fn data_of_other_keys_shadow_nothing(rt: HostRuntime) -> Result<(), Fail> {
+    let all = three_keys(rt.alloc())?;
     let paths: [(&[(u8, u32)], u64); 3] = [
         (&[(0, 2)], 7),
         (&[(1, 1), (0, 3)], 8),
@@ -244,6 +244,12 @@ fn data_of_other_keys_shadow_nothing(rt: HostRuntime) -> Result<(), Fail> {
     ];
     assert!(rt; has_paths(&all, &paths));
     assert!(rt; has_paths(&all.share()?, &paths));
+    Ok(())
+}
+
+#[test]
+fn paths_share_their_first_steps(rt: HostRuntime) -> Result<(), Fail> {
+    let all = three_keys(rt.alloc())?;
     let Answer::Paths(found) = &all else {
         return Err("there are not too many".into());
     };
