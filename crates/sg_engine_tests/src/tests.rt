@@ -251,6 +251,95 @@ struct Seen {
     asked: u64,
 }
 
+/// The graph that an opening holds, if it is sound.
+fn held_of<I: Instance>(alloc: Global, o: Opening<I::Datum>) -> Result<Option<Held<I>>, AllocError>
+    ensures { IfOk result (λ r. IfSome r IsHeld) }
+{
+    if !o.is_sound() {
+        return Ok(None);
+    }
+    let held = Held::open(alloc, o)?;
+    Ok(Some(held))
+}
+
+/// A search by the first kind of a table that has explored nothing, if there are the kind and the scope.
+fn begun<I: Instance>(
+    alloc: Global,
+    table: &KindTable,
+    held: &Held<I>,
+    start: Scope,
+    pred: I::Pred,
+) -> Result<Option<Search<I>>, AllocError>
+    ensures table { IfOk result (λ r. IfSome r (IsOfTable table.now)) }
+    ensures start { IfOk result (λ r. IfSome r (λ s. HasScope held.now.graph s.query.start)) }
+    ensures stands { IfOk result (λ r. IfSome r (λ s. Stands (state_of held.now) (asked I.wants I.same_datum table.now s.query) s.front)) }
+{
+    if table.is_empty() || !held.has_scope(start) {
+        return Ok(None);
+    }
+    let query = Query {
+        start,
+        kind: 0,
+        pred,
+    };
+    let search = Search::start(alloc, table, query)?;
+    Ok(Some(search))
+}
+
+/// Advances a search, with this need where it is blocked, and again after a change. How often it asks is not counted here.
+fn advanced<I: Instance<Datum = u64>>(
+    search: Search<I>,
+    table: &KindTable,
+    held: &mut Held<I>,
+    needs: &[Need],
+    change: Change,
+) -> Result<Seen, AllocError>
+    requires held { IsHeld held.old }
+    requires table { IsOfTable table.now search }
+    requires start { HasScope held.old.graph search.query.start }
+    requires stands { Stands (state_of held.old) (asked I.wants I.same_datum table.now search.query) search.front }
+{
+    stands_later::<I>();
+    let mut search = search;
+    let (moved, progress) = advance_on(&mut search, held, table)?;
+    let needed = search.needs() == needs;
+    make(held, change)?;
+    let (moved_then, then) = advance_on(&mut search, held, table)?;
+    Ok(Seen {
+        moved,
+        progress,
+        needed,
+        moved_then,
+        found: paths(search, then),
+        asked: 0,
+    })
+}
+
+/// What a search from a scope of a held graph does before and after a change, if there are the kind and the scope.
+fn seen_in(
+    alloc: Global,
+    table: &KindTable,
+    held: &mut Held<Counted>,
+    start: Scope,
+    needs: &[Need],
+    change: Change,
+) -> Result<Option<Seen>, AllocError>
+    requires held { IsHeld held.old }
+{
+    let count = Arc::new(alloc, AtomicU64::new(0))?;
+    let pred = Counter {
+        asked: Arc::clone(&count)?,
+    };
+    match begun(alloc, table, held, start, pred)? {
+        Some(search) => {
+            let mut seen = advanced(search, table, held, needs, change)?;
+            seen.asked = count.load(Ordering::SeqCst);
+            Ok(Some(seen))
+        }
+        None => Ok(None),
+    }
+}
+
 /// Advances a search in an opening, with this need where it is blocked, and again after a change.
 fn run(
     alloc: Global,
@@ -263,36 +352,10 @@ fn run(
     let Some(table) = table_of(alloc, expr)? else {
         return Ok(None);
     };
-    if !o.is_sound() {
-        return Ok(None);
+    match held_of(alloc, o)? {
+        Some(mut held) => Ok(seen_in(alloc, &table, &mut held, start, needs, change)?),
+        None => Ok(None),
     }
-    let mut held = Held::<Counted>::open(alloc, o)?;
-    if table.is_empty() || !held.has_scope(start) {
-        return Ok(None);
-    }
-    let count = Arc::new(alloc, AtomicU64::new(0))?;
-    let pred = Counter {
-        asked: Arc::clone(&count)?,
-    };
-    let query = Query {
-        start,
-        kind: 0,
-        pred,
-    };
-    stands_later::<Counted>();
-    let mut search = Search::<Counted>::start(alloc, &table, query)?;
-    let (moved, progress) = advance_on(&mut search, &held, &table)?;
-    let needed = search.needs() == needs;
-    make(&mut held, change)?;
-    let (moved_then, then) = advance_on(&mut search, &held, &table)?;
-    Ok(Some(Seen {
-        moved,
-        progress,
-        needed,
-        moved_then,
-        found: paths(search, then),
-        asked: count.load(Ordering::SeqCst),
-    }))
 }
 
 /// An opening of a scope with this many targets that have data, and of one more that has, with no holders.
@@ -434,28 +497,38 @@ fn open_rows_and_unset_data_block(rt: HostRuntime) -> Result<(), Fail> {
     Ok(())
 }
 
-/// The answer of a search for a number behind a closed row with this many targets, if one advance finds it.
-fn answer_at_once(alloc: Global, targets: u32, wanted: u64) -> Result<Option<Answer<u64>>, Fail> {
-    let Some(table) = table_of(alloc, Expr::One(Label::new(0)))? else {
+/// The answer of a search for a number from the first scope of a held graph, if 100 advances find it, and how often it moved.
+fn answer_in(
+    alloc: Global,
+    table: &KindTable,
+    held: &Held<Numbers>,
+    wanted: u64,
+) -> Result<Option<(u32, Answer<u64>)>, AllocError> {
+    match begun(alloc, table, held, scope(0), wanted)? {
+        Some(mut search) => {
+            let (moved, progress) = advance_on(&mut search, held, table)?;
+            match progress {
+                Progress::Ready => Ok(Some((moved, search.into_answer()))),
+                Progress::Moved | Progress::Blocked => Ok(None),
+            }
+        }
+        None => Ok(None),
+    }
+}
+
+/// The answer of a search for a number from the first scope of an opening, if 100 advances find it, and how often it moved.
+fn answer_of(
+    alloc: Global,
+    o: Opening<u64>,
+    expr: Expr,
+    wanted: u64,
+) -> Result<Option<(u32, Answer<u64>)>, Fail> {
+    let Some(table) = table_of(alloc, expr)? else {
         return Ok(None);
     };
-    let o = star(alloc, targets)?;
-    if !o.is_sound() {
-        return Ok(None);
-    }
-    let held = Held::<Numbers>::open(alloc, o)?;
-    let query = Query {
-        start: scope(0),
-        kind: 0,
-        pred: wanted,
-    };
-    if table.is_empty() || !held.has_scope(query.start) {
-        return Ok(None);
-    }
-    let mut search = Search::<Numbers>::start(alloc, &table, query)?;
-    match search.advance(&held, &table)? {
-        Progress::Ready => Ok(Some(search.into_answer())),
-        Progress::Moved | Progress::Blocked => Ok(None),
+    match held_of(alloc, o)? {
+        Some(held) => Ok(answer_in(alloc, &table, &held, wanted)?),
+        None => Ok(None),
     }
 }
 
@@ -465,7 +538,9 @@ fn a_key_in_a_long_row_is_found_at_once(rt: HostRuntime) -> Result<(), Fail> {
         label: Label::new(0),
         to: scope(42),
     };
-    let Some(Answer::Paths(found)) = answer_at_once(rt.alloc(), 70, 41)? else {
+    let only = Expr::One(Label::new(0));
+    let Some((0, Answer::Paths(found))) = answer_of(rt.alloc(), star(rt.alloc(), 70)?, only, 41)?
+    else {
         return Err("not found at once".into());
     };
     if found.len() != 1 {
@@ -496,36 +571,11 @@ fn branched(alloc: Global) -> Result<Opening<u64>, AllocError> {
     Ok(o)
 }
 
-/// The answer of a search for a number along all paths from the first scope of an opening, if 100 advances find it.
-fn answer_along(alloc: Global, o: Opening<u64>, wanted: u64) -> Result<Option<Answer<u64>>, Fail> {
-    let expr = Expr::Star(Box::new(alloc, Expr::One(Label::new(0)))?);
-    let Some(table) = table_of(alloc, expr)? else {
-        return Ok(None);
-    };
-    if !o.is_sound() {
-        return Ok(None);
-    }
-    let held = Held::<Numbers>::open(alloc, o)?;
-    let query = Query {
-        start: scope(0),
-        kind: 0,
-        pred: wanted,
-    };
-    if table.is_empty() || !held.has_scope(query.start) {
-        return Ok(None);
-    }
-    let mut search = Search::<Numbers>::start(alloc, &table, query)?;
-    let (_, progress) = advance_on(&mut search, &held, &table)?;
-    match progress {
-        Progress::Ready => Ok(Some(search.into_answer())),
-        Progress::Moved | Progress::Blocked => Ok(None),
-    }
-}
-
 #[test]
 fn an_answer_has_each_branch_of_a_chain(rt: HostRuntime) -> Result<(), Fail> {
     let alloc = rt.alloc();
-    let Some(Answer::Paths(found)) = answer_along(alloc, branched(alloc)?, 7)? else {
+    let zeros = Expr::Star(Box::new(alloc, Expr::One(Label::new(0)))?);
+    let Some((_, Answer::Paths(found))) = answer_of(alloc, branched(alloc)?, zeros, 7)? else {
         return Err("not found".into());
     };
     if found.len() != 2 {
