@@ -12,7 +12,7 @@ ghost use Rattle.jv_layout.specs.Sizes.{IsFolder, decl_names, body_names, unit_n
 
 use jv_diag::DiagList;
 use jv_instance::{JavaDatum, JavaPred, Ty, TypeBase, TypeList, labels};
-use jv_layout::layout;
+use jv_layout::{Layout, layout};
 use jv_member::check_members;
 use jv_names::{Oracle, for_any, for_name, kinds};
 use jv_tree::nodes::{class_or_interface, method, method_member, type_ref, unit};
@@ -66,7 +66,7 @@ fn method_of(alloc: Global, words: &[u8]) -> Result<Member, AllocError>
     ensures { IfOk result (λ m. (rest : MemberTrees) → body_names (members (member_tree m) rest) ≡ 1 + body_names rest) }
 {
     let ty = type_ref(0, Base::Int, 0);
-    let of = method(mods(alloc, words)?, ty, ident(5, M), vec![in alloc]?, None);
+    let of = method(mods(alloc, words)?, ty, ident(5, M), Vec::new(alloc), None);
     Ok(method_member(of))
 }
 
@@ -80,8 +80,8 @@ fn class_of(
     ensures { IfOk result (λ d. decl_names (type_decl_tree d) ≡ 1 + body_names (member_trees members.items)) }
 {
     let mods = mods(alloc, words)?;
-    let extends = vec![in alloc]?;
-    let implements = vec![in alloc]?;
+    let extends = Vec::new(alloc);
+    let implements = Vec::new(alloc);
     Ok(class_or_interface(ident(1, number), mods, false, extends, implements, members))
 }
 
@@ -151,16 +151,26 @@ fn step(label: u8, to: u32) -> Step {
     }
 }
 
+fn one_path(
+    alloc: Global,
+    start: Scope,
+    steps: &[Step],
+    datum: JavaDatum,
+) -> Result<Answer<JavaDatum>, AllocError> {
+    let mut found = FoundTree::new(alloc, start);
+    found.add(steps, datum)?;
+    Ok(Answer::Paths(FoundPaths::new(alloc, found)?))
+}
+
 fn put_path(
     alloc: Global,
     o: &mut Oracle,
     query: Query<JavaPred>,
-    steps: Vec<Step>,
+    steps: &[Step],
     datum: JavaDatum,
 ) -> Result<(), AllocError> {
-    let mut found = FoundTree::new(alloc, query.start);
-    found.add(steps.as_slice(), datum)?;
-    o.put(query, Answer::Paths(FoundPaths::new(alloc, found)?))
+    let answer = one_path(alloc, query.start, steps, datum)?;
+    o.put(query, answer)
 }
 
 fn put_signature(
@@ -169,50 +179,62 @@ fn put_signature(
     member: u32,
     signature: u32,
     base: TypeBase,
-    params: Vec<Ty>,
+    params: &[Ty],
 ) -> Result<(), AllocError> {
     let datum = JavaDatum::Signature {
         name: NameId(M),
         result: Ty { base, dims: 0 },
-        params: TypeList::new(params),
+        params: TypeList::new(Vec::from_slice(alloc, params)?),
     };
-    let steps = vec![in alloc; step(labels::SIG, signature)]?;
-    put_path(alloc, o, for_any(kinds::SIG, scope(member)), steps, datum)
+    let query = for_any(kinds::SIG, scope(member));
+    put_path(alloc, o, query, &[step(labels::SIG, signature)], datum)
 }
 
-/// The replies to all queries of `B`, whose method has this result and these parameters.
-fn replies(alloc: Global, base: TypeBase, params: Vec<Ty>) -> Result<Oracle, AllocError> {
-    let mut o = Oracle::new(alloc);
+/// Puts the replies that name a member: the method above that of `B`, that of `B`, and the constructor of `Object`.
+fn put_members(alloc: Global, o: &mut Oracle) -> Result<(), AllocError> {
     let m = NameId(M);
-    let above = vec![in alloc; step(labels::EXT, 9), step(labels::METH, 14)]?;
     put_path(
         alloc,
-        &mut o,
+        o,
         for_name(kinds::ABOVE, scope(10), m),
-        above,
+        &[step(labels::EXT, 9), step(labels::METH, 14)],
         JavaDatum::Member { name: m },
     )?;
-    let own = vec![in alloc; step(labels::METH, 16)]?;
     put_path(
         alloc,
-        &mut o,
+        o,
         for_any(kinds::METHODS, scope(10)),
-        own,
+        &[step(labels::METH, 16)],
         JavaDatum::Member { name: m },
     )?;
-    put_signature(alloc, &mut o, 14, 20, TypeBase::Int, Vec::new(alloc))?;
-    put_signature(alloc, &mut o, 16, 22, base, params)?;
-    let ctor = vec![in alloc; step(labels::CTOR, 11)]?;
     put_path(
         alloc,
-        &mut o,
+        o,
         for_any(kinds::CTORS, scope(7)),
-        ctor,
+        &[step(labels::CTOR, 11)],
         JavaDatum::Member {
             name: NameId(OBJECT),
         },
-    )?;
-    put_signature(alloc, &mut o, 11, 17, TypeBase::Void, Vec::new(alloc))?;
+    )
+}
+
+/// Puts the signatures of the method of `A`, of that of `B` and of the constructor of `Object`.
+fn put_signatures(
+    alloc: Global,
+    o: &mut Oracle,
+    base: TypeBase,
+    params: &[Ty],
+) -> Result<(), AllocError> {
+    put_signature(alloc, o, 14, 20, TypeBase::Int, &[])?;
+    put_signature(alloc, o, 16, 22, base, params)?;
+    put_signature(alloc, o, 11, 17, TypeBase::Void, &[])
+}
+
+/// The replies to all queries of `B`, whose method has this result and these parameters.
+fn replies(alloc: Global, base: TypeBase, params: &[Ty]) -> Result<Oracle, AllocError> {
+    let mut o = Oracle::new(alloc);
+    put_members(alloc, &mut o)?;
+    put_signatures(alloc, &mut o, base, params)?;
     Ok(o)
 }
 
@@ -225,22 +247,63 @@ fn told(alloc: Global, diags: &DiagList) -> Result<String, Fail> {
     Ok(text)
 }
 
-/// What is wrong with `B` where its method has these modifiers, and the replies are these; or that a reply is missing.
-fn checked(alloc: Global, words: &[u8], o: &Oracle) -> Result<String, Fail> {
-    let names = small_names(alloc)?;
-    let files = small_files(alloc, words)?;
-    let l = layout(alloc, &names, &files)?;
+fn needed(alloc: Global, query: &Query<JavaPred>) -> Result<String, Fail> {
+    let mut text = String::new(alloc);
+    write!(text, "needs {} of {}", query.kind, query.start.serial)?;
+    Ok(text)
+}
+
+/// What is wrong with a type by these replies; or that a reply is missing.
+fn checked(
+    alloc: Global,
+    l: &Layout,
+    names: &Names,
+    o: &Oracle,
+    decl: &TypeDecl,
+    ty: Scope,
+) -> Result<String, Fail> {
     let declarations = l.declarations(alloc)?;
-    let decl = class_with(alloc, B, words)?;
-    match check_members(alloc, &l, &declarations, &names, o, &decl, scope(10))? {
+    match check_members(alloc, l, &declarations, names, o, decl, ty)? {
         Known::Is(diags) => told(alloc, &diags),
-        Known::Need(query) => {
-            let mut text = String::new(alloc);
-            write!(text, "needs {} of {}", query.kind, query.start.serial)?;
-            Ok(text)
-        }
+        Known::Need(query) => needed(alloc, &query),
     }
 }
+
+/// The layout of the folder in which the method of `B` has these modifiers.
+fn small_layout(alloc: Global, names: &Names, words: &[u8]) -> Result<Layout, Fail> {
+    let files = small_files(alloc, words)?;
+    Ok(layout(alloc, names, &files)?)
+}
+
+/// What is wrong with a type of the folder in which the method of `B` has these modifiers.
+fn checked_in(
+    alloc: Global,
+    words: &[u8],
+    o: &Oracle,
+    decl: &TypeDecl,
+    ty: Scope,
+) -> Result<String, Fail> {
+    let names = small_names(alloc)?;
+    let l = small_layout(alloc, &names, words)?;
+    checked(alloc, &l, &names, o, decl, ty)
+}
+
+/// What is wrong with `B` where its method has these modifiers, and the replies are these; or that a reply is missing.
+fn checked_b(alloc: Global, words: &[u8], o: &Oracle) -> Result<String, Fail> {
+    let decl = class_with(alloc, B, words)?;
+    checked_in(alloc, words, o, &decl, scope(10))
+}
+
+/// What is wrong with `B` where its method has these modifiers, this result and these parameters.
+fn overridden(alloc: Global, words: &[u8], base: TypeBase, params: &[Ty]) -> Result<String, Fail> {
+    let o = replies(alloc, base, params)?;
+    checked_b(alloc, words, &o)
+}
+
+const INT: Ty = Ty {
+    base: TypeBase::Int,
+    dims: 0,
+};
 
 /// The modifiers of the method of `B`, its result, and the codes with their places: the method stands at 5 and the class at 1. A
 /// method without `abstract` has no body, which is 37.
@@ -257,8 +320,7 @@ const METHODS_OF_B: [(&[u8], TypeBase, &str); 7] = [
 #[test]
 fn methods_override_those_above(rt: HostRuntime) -> Result<(), Fail> {
     for (words, base, wanted) in METHODS_OF_B {
-        let o = replies(rt.alloc(), base, Vec::new(rt.alloc()))?;
-        let text = checked(rt.alloc(), words, &o)?;
+        let text = overridden(rt.alloc(), words, base, &[])?;
         assert_eq!(rt; text.as_str(), wanted);
     }
     Ok(())
@@ -266,35 +328,34 @@ fn methods_override_those_above(rt: HostRuntime) -> Result<(), Fail> {
 
 #[test]
 fn other_parameters_are_overloading(rt: HostRuntime) -> Result<(), Fail> {
-    let int = Ty {
-        base: TypeBase::Int,
-        dims: 0,
-    };
-    let params = vec![in rt.alloc(); int]?;
-    let o = replies(rt.alloc(), TypeBase::Int, params)?;
-    let text = checked(rt.alloc(), &[34], &o)?;
+    let text = overridden(rt.alloc(), &[34], TypeBase::Int, &[INT])?;
     assert_eq!(rt; text.as_str(), "37@5 36@5 ");
     Ok(())
 }
 
+/// What is said of `B` where there are no replies.
+fn unanswered(alloc: Global) -> Result<String, Fail> {
+    let o = Oracle::new(alloc);
+    checked_b(alloc, &[34], &o)
+}
+
 #[test]
 fn a_missing_reply_is_named(rt: HostRuntime) -> Result<(), Fail> {
-    let o = Oracle::new(rt.alloc());
-    let text = checked(rt.alloc(), &[34], &o)?;
+    let text = unanswered(rt.alloc())?;
     assert_eq!(rt; text.as_str(), "needs 6 of 10");
     Ok(())
 }
 
+/// What is wrong with `B` where the constructor of `Object` takes an `int`.
+fn constructed(alloc: Global) -> Result<String, Fail> {
+    let mut o = replies(alloc, TypeBase::Int, &[])?;
+    put_signature(alloc, &mut o, 11, 17, TypeBase::Void, &[INT])?;
+    checked_b(alloc, &[34], &o)
+}
+
 #[test]
 fn superclass_constructor_takes_no_arguments(rt: HostRuntime) -> Result<(), Fail> {
-    let int = Ty {
-        base: TypeBase::Int,
-        dims: 0,
-    };
-    let mut o = replies(rt.alloc(), TypeBase::Int, Vec::new(rt.alloc()))?;
-    let params = vec![in rt.alloc(); int]?;
-    put_signature(rt.alloc(), &mut o, 11, 17, TypeBase::Void, params)?;
-    let text = checked(rt.alloc(), &[34], &o)?;
+    let text = constructed(rt.alloc())?;
     assert_eq!(rt; text.as_str(), "37@5 38@1 ");
     Ok(())
 }
@@ -309,38 +370,44 @@ fn add_inherited(
     found.add(&steps, JavaDatum::Member { name: NameId(M) })
 }
 
-/// What is wrong with `String` where it inherits the methods of `A` and of `B`.
-fn met(alloc: Global, base: TypeBase, params: Vec<Ty>) -> Result<String, Fail> {
-    let mut o = replies(alloc, base, params)?;
+/// The methods that `String` inherits from `A` and from `B`.
+fn inherited(alloc: Global) -> Result<Answer<JavaDatum>, AllocError> {
     let mut found = FoundTree::new(alloc, scope(8));
     add_inherited(&mut found, 9, 14)?;
     add_inherited(&mut found, 10, 16)?;
-    o.put(
-        for_any(kinds::METHODS, scope(8)),
-        Answer::Paths(FoundPaths::new(alloc, found)?),
-    )?;
-    let names = small_names(alloc)?;
-    let files = small_files(alloc, &[34])?;
-    let l = layout(alloc, &names, &files)?;
-    let declarations = l.declarations(alloc)?;
-    let decl = empty_class(alloc, STRING)?;
-    match check_members(alloc, &l, &declarations, &names, &o, &decl, scope(8))? {
-        Known::Is(diags) => told(alloc, &diags),
-        Known::Need(_) => Err("a reply is missing".into()),
-    }
+    Ok(Answer::Paths(FoundPaths::new(alloc, found)?))
 }
+
+fn put_inherited(alloc: Global, o: &mut Oracle) -> Result<(), AllocError> {
+    let answer = inherited(alloc)?;
+    o.put(for_any(kinds::METHODS, scope(8)), answer)
+}
+
+/// What is wrong with `String` by these replies; or that a reply is missing.
+fn checked_string(alloc: Global, o: &Oracle) -> Result<String, Fail> {
+    let decl = empty_class(alloc, STRING)?;
+    checked_in(alloc, &[34], o, &decl, scope(8))
+}
+
+/// What is wrong with `String` where it inherits the methods of `A` and of `B`; or that a reply is missing.
+fn met(alloc: Global, base: TypeBase, params: &[Ty]) -> Result<String, Fail> {
+    let mut o = replies(alloc, base, params)?;
+    put_inherited(alloc, &mut o)?;
+    checked_string(alloc, &o)
+}
+
+/// The result and the parameters of the method of `B`, and the codes with their places.
+const MEETINGS: [(TypeBase, &[Ty], &str); 3] = [
+    (TypeBase::Int, &[], ""),
+    (TypeBase::Long, &[], "34@1 "),
+    (TypeBase::Int, &[INT], "36@1 "),
+];
 
 #[test]
 fn inherited_methods_meet(rt: HostRuntime) -> Result<(), Fail> {
-    let int = Ty {
-        base: TypeBase::Int,
-        dims: 0,
-    };
-    let same = met(rt.alloc(), TypeBase::Int, Vec::new(rt.alloc()))?;
-    assert_eq!(rt; same.as_str(), "");
-    let result = met(rt.alloc(), TypeBase::Long, Vec::new(rt.alloc()))?;
-    assert_eq!(rt; result.as_str(), "34@1 ");
-    let params = met(rt.alloc(), TypeBase::Int, vec![in rt.alloc(); int]?)?;
-    assert_eq!(rt; params.as_str(), "36@1 ");
+    for (base, params, wanted) in MEETINGS {
+        let text = met(rt.alloc(), base, params)?;
+        assert_eq!(rt; text.as_str(), wanted);
+    }
     Ok(())
 }

@@ -68,19 +68,22 @@ pub fn small_names(alloc: Global) -> Result<Names, AllocError> {
     Ok(names)
 }
 
+/// A file without bytes, by its path.
+fn source_at(alloc: Global, path: &str) -> Result<SourceFile, AllocError> {
+    Ok(SourceFile {
+        path: String::from_str(alloc, path)?,
+        bytes: Vec::new(alloc),
+    })
+}
+
 /// The files of the small folder.
 pub fn small_sources(alloc: Global) -> Result<Vec<SourceFile>, AllocError>
     ensures { IfOk result (λ v. length v.items ≡ 2) }
 {
-    let mut files = Vec::new(alloc);
-    files.push(SourceFile {
-        path: String::from_str(alloc, "p/A.java")?,
-        bytes: Vec::new(alloc),
-    })?;
-    files.push(SourceFile {
-        path: String::from_str(alloc, "r/I.java")?,
-        bytes: Vec::new(alloc),
-    })?;
+    let files = vec![in alloc;
+        source_at(alloc, "p/A.java")?,
+        source_at(alloc, "r/I.java")?,
+    ]?;
     Ok(files)
 }
 
@@ -102,76 +105,101 @@ fn field_of(alloc: Global, number: u32) -> Result<Member, AllocError> {
     Ok(field_member(no_mods(alloc), type_ref(0, Base::Int, 0), variables))
 }
 
-fn method_of(alloc: Global, number: u32) -> Result<Member, AllocError> {
+fn method_of(alloc: Global, number: u32) -> Member {
     let ty = type_ref(0, Base::Int, 0);
-    let of = method(no_mods(alloc), ty, ident(number), vec![in alloc]?, None);
-    Ok(method_member(of))
+    method_member(method(no_mods(alloc), ty, ident(number), Vec::new(alloc), None))
 }
 
-fn constructor_of(alloc: Global, number: u32) -> Result<Member, AllocError> {
-    let of = constructor(
+fn constructor_of(alloc: Global, number: u32) -> Member {
+    constructor_member(constructor(
         no_mods(alloc),
         ident(number),
-        vec![in alloc]?,
+        Vec::new(alloc),
         None,
-        vec![in alloc]?,
-    );
-    Ok(constructor_member(of))
+        Vec::new(alloc),
+    ))
 }
 
-fn type_of(
-    alloc: Global,
-    number: u32,
-    interface: bool,
-    members: Vec<Member>,
-) -> Result<TypeDecl, AllocError> {
-    Ok(class_or_interface(
+fn type_of(alloc: Global, number: u32, interface: bool, members: Vec<Member>) -> TypeDecl {
+    class_or_interface(
         ident(number),
         no_mods(alloc),
         interface,
-        vec![in alloc]?,
-        vec![in alloc]?,
+        Vec::new(alloc),
+        Vec::new(alloc),
         members,
-    ))
+    )
+}
+
+fn empty_class(alloc: Global, number: u32) -> TypeDecl {
+    type_of(alloc, number, false, Vec::new(alloc))
+}
+
+/// `class B { B() {} }`
+fn inner_class(alloc: Global) -> Result<TypeDecl, AllocError> {
+    let members = vec![in alloc; constructor_of(alloc, B)]?;
+    Ok(type_of(alloc, B, false, members))
+}
+
+/// `int x; class B { B() {} }`
+fn first_members(alloc: Global) -> Result<Vec<Member>, AllocError> {
+    let members = vec![in alloc; field_of(alloc, X)?, nested(inner_class(alloc)?)]?;
+    Ok(members)
+}
+
+/// Adds `int x; int x(); int m();`.
+fn add_last_members(alloc: Global, members: &mut Vec<Member>) -> Result<(), AllocError> {
+    members.push(field_of(alloc, X)?)?;
+    members.push(method_of(alloc, X))?;
+    members.push(method_of(alloc, M))?;
+    Ok(())
 }
 
 /// `class A { int x; class B { B() {} } int x; int x(); int m(); }`
 fn outer_class(alloc: Global) -> Result<TypeDecl, AllocError> {
-    let inner = type_of(alloc, B, false, vec![in alloc; constructor_of(alloc, B)?]?)?;
-    let members = vec![in alloc;
-        field_of(alloc, X)?,
-        nested(inner),
-        field_of(alloc, X)?,
-        method_of(alloc, X)?,
-        method_of(alloc, M)?,
-    ]?;
-    type_of(alloc, A, false, members)
+    let mut members = first_members(alloc)?;
+    add_last_members(alloc, &mut members)?;
+    Ok(type_of(alloc, A, false, members))
 }
 
 /// `interface I { int x; class B {} }`
 fn outer_interface(alloc: Global) -> Result<TypeDecl, AllocError> {
-    let inner = type_of(alloc, B, false, vec![in alloc]?)?;
-    let members = vec![in alloc; field_of(alloc, X)?, nested(inner)]?;
-    type_of(alloc, I, true, members)
+    let members = vec![in alloc; field_of(alloc, X)?, nested(empty_class(alloc, B))]?;
+    Ok(type_of(alloc, I, true, members))
 }
 
-fn lang_file(alloc: Global, types: Vec<TypeDecl>) -> Result<Unit, AllocError> {
+/// A file of `java.lang` with one type.
+fn lang_file(alloc: Global, of: TypeDecl) -> Result<Unit, AllocError> {
+    let types = vec![in alloc; of]?;
     let ids = vec![in alloc; ident(JAVA), ident(LANG)]?;
-    Ok(unit(Some(Name { ids }), vec![in alloc]?, types))
+    Ok(unit(Some(Name { ids }), Vec::new(alloc), types))
+}
+
+/// `package java.lang; class Object { int m(); }`
+fn file_of_object(alloc: Global) -> Result<Unit, AllocError> {
+    let members = vec![in alloc; method_of(alloc, M)]?;
+    lang_file(alloc, type_of(alloc, OBJECT, false, members))
+}
+
+/// The file `p/A.java`.
+fn file_of_a(alloc: Global) -> Result<Unit, AllocError> {
+    let types = vec![in alloc; outer_class(alloc)?, empty_class(alloc, A)]?;
+    let ids = vec![in alloc; ident(P)]?;
+    Ok(unit(Some(Name { ids }), Vec::new(alloc), types))
+}
+
+/// The file `r/I.java`.
+fn file_of_i(alloc: Global) -> Result<Unit, AllocError> {
+    let types = vec![in alloc; outer_interface(alloc)?]?;
+    Ok(unit(None, Vec::new(alloc), types))
 }
 
 fn small_files(alloc: Global) -> Result<Vec<Unit>, AllocError> {
-    let object = type_of(alloc, OBJECT, false, vec![in alloc; method_of(alloc, M)?]?)?;
-    let string = type_of(alloc, STRING, false, vec![in alloc]?)?;
-    let again = type_of(alloc, A, false, vec![in alloc]?)?;
-    let classes = vec![in alloc; outer_class(alloc)?, again]?;
-    let interfaces = vec![in alloc; outer_interface(alloc)?]?;
-    let p = vec![in alloc; ident(P)]?;
     let files = vec![in alloc;
-        lang_file(alloc, vec![in alloc; object]?)?,
-        lang_file(alloc, vec![in alloc; string]?)?,
-        unit(Some(Name { ids: p }), vec![in alloc]?, classes),
-        unit(None, vec![in alloc]?, interfaces),
+        file_of_object(alloc)?,
+        lang_file(alloc, empty_class(alloc, STRING))?,
+        file_of_a(alloc)?,
+        file_of_i(alloc)?,
     ]?;
     Ok(files)
 }
@@ -207,19 +235,37 @@ fn set_datum(graph: &mut Graph<JavaDatum>, s: Scope, datum: JavaDatum) -> Result
     Ok(())
 }
 
+fn add_scopes(graph: &mut Graph<JavaDatum>, scopes: &[Scope]) -> Result<(), AllocError> {
+    for s in scopes {
+        graph.add_scope(*s)?;
+    }
+    Ok(())
+}
+
+fn add_edges(
+    graph: &mut Graph<JavaDatum>,
+    edges: &[(Scope, Label, Scope)],
+) -> Result<(), AllocError> {
+    for (from, label, to) in edges {
+        add_edge(graph, *from, *label, *to)?;
+    }
+    Ok(())
+}
+
+fn set_data(graph: &mut Graph<JavaDatum>, data: Vec<(Scope, JavaDatum)>) -> Result<(), AllocError> {
+    for (s, datum) in data {
+        set_datum(graph, s, datum)?;
+    }
+    Ok(())
+}
+
 /// The graph at the opening of the small folder.
 pub fn small_skeleton(alloc: Global, layout: &Layout) -> Result<Graph<JavaDatum>, AllocError> {
     let opening = layout.opening(alloc)?;
     let mut graph = Graph::new(alloc);
-    for s in opening.scopes {
-        graph.add_scope(s)?;
-    }
-    for (from, label, to) in opening.edges {
-        add_edge(&mut graph, from, label, to)?;
-    }
-    for (s, datum) in opening.given {
-        set_datum(&mut graph, s, datum)?;
-    }
+    add_scopes(&mut graph, &opening.scopes)?;
+    add_edges(&mut graph, &opening.edges)?;
+    set_data(&mut graph, opening.given)?;
     Ok(graph)
 }
 
@@ -234,10 +280,27 @@ const ADDED: [(u32, u8, u32); 7] = [
     (15, labels::EXT, 9),
 ];
 
-fn plain(base: TypeBase) -> Ty {
-    Ty { base, dims: 0 }
-}
+const VOID: Ty = Ty {
+    base: TypeBase::Void,
+    dims: 0,
+};
 
+const INT: Ty = Ty {
+    base: TypeBase::Int,
+    dims: 0,
+};
+
+const CHAR: Ty = Ty {
+    base: TypeBase::Char,
+    dims: 0,
+};
+
+const BAD: Ty = Ty {
+    base: TypeBase::Bad,
+    dims: 2,
+};
+
+/// A type by the serial of its scope.
 fn class(serial: u32, dims: u8) -> Ty {
     Ty {
         base: TypeBase::Class(scope(serial)),
@@ -247,51 +310,37 @@ fn class(serial: u32, dims: u8) -> Ty {
 
 /// Sets the types of a signature, by the serial of its scope.
 fn set_signature(
+    alloc: Global,
     graph: &mut Graph<JavaDatum>,
     serial: u32,
     number: u32,
     ty: Ty,
-    params: Vec<Ty>,
+    params: &[Ty],
 ) -> Result<(), AllocError> {
-    set_datum(
-        graph,
-        scope(serial),
-        JavaDatum::Signature {
-            name: NameId(number),
-            result: ty,
-            params: TypeList::new(params),
-        },
-    )
+    let datum = JavaDatum::Signature {
+        name: NameId(number),
+        result: ty,
+        params: TypeList::new(Vec::from_slice(alloc, params)?),
+    };
+    set_datum(graph, scope(serial), datum)
 }
 
 /// Sets the signatures of all members of the folder's own types but that of the last one.
 fn set_signatures(alloc: Global, graph: &mut Graph<JavaDatum>) -> Result<(), AllocError> {
-    let void = plain(TypeBase::Void);
-    let int = plain(TypeBase::Int);
-    let bad = Ty {
-        base: TypeBase::Bad,
-        dims: 2,
-    };
-    set_signature(graph, 31, A, void, vec![in alloc]?)?;
-    set_signature(graph, 32, X, int, vec![in alloc]?)?;
-    set_signature(graph, 33, B, void, vec![in alloc; class(11, 0)]?)?;
-    set_signature(graph, 34, X, int, vec![in alloc]?)?;
-    set_signature(
-        graph,
-        35,
-        X,
-        class(12, 1),
-        vec![in alloc; int, class(9, 0)]?,
-    )?;
-    set_signature(
-        graph,
-        36,
-        M,
-        void,
-        vec![in alloc; bad, plain(TypeBase::Char), class(10, 2)]?,
-    )?;
-    set_signature(graph, 37, A, void, vec![in alloc]?)?;
-    set_signature(graph, 38, X, class(10, 0), vec![in alloc]?)
+    let signatures: [(u32, u32, Ty, &[Ty]); 8] = [
+        (31, A, VOID, &[]),
+        (32, X, INT, &[]),
+        (33, B, VOID, &[class(11, 0)]),
+        (34, X, INT, &[]),
+        (35, X, class(12, 1), &[INT, class(9, 0)]),
+        (36, M, VOID, &[BAD, CHAR, class(10, 2)]),
+        (37, A, VOID, &[]),
+        (38, X, class(10, 0), &[]),
+    ];
+    for (serial, number, ty, params) in signatures {
+        set_signature(alloc, graph, serial, number, ty, params)?;
+    }
+    Ok(())
 }
 
 /// The graph of the small folder with imports, supertypes and signatures.

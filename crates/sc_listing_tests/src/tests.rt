@@ -1,11 +1,15 @@
 //! Listings of a small folder, against texts that were written by hand.
 
+ghost use Rattle.std.specs.Prelude.{◌≡◌, length, IfOk};
+
 use crate::small_folder::{
     B, M, P, X, scope, small_graph, small_layout, small_names, small_skeleton, small_sources,
 };
 use jv_diag::DiagList;
 use jv_instance::{Java, JavaDatum, JavaPred, labels};
-use jv_tree::NameId;
+use jv_layout::Layout;
+use jv_tree::{NameId, Names};
+use sc_io::SourceFile;
 use sc_listing::{Listed, answers_text, graph_text};
 use sg_base::{Graph, Label, Scope, Step};
 use sg_query::{Answer, FoundPaths, FoundTree, Query};
@@ -19,20 +23,70 @@ const GRAPHS: [&str; 2] = [
     "file p/A.java\nsimp I\nodi java.lang\nfile r/I.java\nodi java.lang\nodi p\nodi p.A\ntype p.A\next java.lang.Object\nconstructor()\nfield x int\nmethod x(int,java.lang.Object) p.A.B[]\nmethod m(?,char,java.lang.String[][]) void\ntype p.A.B\next p.A\nconstructor(p.A)\ntype p.A\next java.lang.Object\nconstructor()\ntype I\nfield x java.lang.String\ntype I.B\next java.lang.Object\nend\n",
 ];
 
-#[test]
-fn graphs_of_a_small_folder(rt: HostRuntime) -> Result<(), Fail> {
-    let alloc = rt.alloc();
+/// What a listing of the small folder is about, which `Listed` borrows.
+#[derive(Drop)]
+struct Folder {
+    names: Names,
+    layout: Layout,
+    files: Vec<SourceFile>,
+}
+
+fn make_small(alloc: Global) -> Result<Folder, Fail>
+    ensures { IfOk result (λ s. length s.files.items ≡ 2) }
+{
     let names = small_names(alloc)?;
     let layout = small_layout(alloc, &names)?;
     let files = small_sources(alloc)?;
-    let w = Listed {
-        layout: &layout,
-        names: &names,
-        files: &files,
-    };
-    let skeleton = graph_text(alloc, &w, &small_skeleton(alloc, &layout)?)?;
+    Ok(Folder {
+        names,
+        layout,
+        files,
+    })
+}
+
+/// What a listing of the folder is about.
+fn about(s: &Folder) -> Listed<'_>
+    ensures { result.files.now ≡ s.now.files.items }
+{
+    Listed {
+        layout: &s.layout,
+        names: &s.names,
+        files: &s.files,
+    }
+}
+
+fn text_of(alloc: Global, s: &Folder, graph: &Graph<JavaDatum>) -> Result<Vec<u8>, AllocError>
+    requires { length s.now.files.items ≡ 2 }
+{
+    graph_text(alloc, &about(s), graph)
+}
+
+fn graph_of(alloc: Global, s: &Folder, is_whole: bool) -> Result<Graph<JavaDatum>, AllocError> {
+    if is_whole {
+        small_graph(alloc, &s.layout)
+    } else {
+        small_skeleton(alloc, &s.layout)
+    }
+}
+
+fn text_of_graph(alloc: Global, s: &Folder, is_whole: bool) -> Result<Vec<u8>, AllocError>
+    requires { length s.now.files.items ≡ 2 }
+{
+    let graph = graph_of(alloc, s, is_whole)?;
+    text_of(alloc, s, &graph)
+}
+
+/// What is listed of the graph at the opening, or of the whole graph.
+fn listed_graph(alloc: Global, is_whole: bool) -> Result<Vec<u8>, Fail> {
+    let s = make_small(alloc)?;
+    Ok(text_of_graph(alloc, &s, is_whole)?)
+}
+
+#[test]
+fn graphs_of_a_small_folder(rt: HostRuntime) -> Result<(), Fail> {
+    let skeleton = listed_graph(rt.alloc(), false)?;
     assert_eq!(rt; skeleton.as_slice(), GRAPHS[0].as_bytes());
-    let whole = graph_text(alloc, &w, &small_graph(alloc, &layout)?)?;
+    let whole = listed_graph(rt.alloc(), true)?;
     assert_eq!(rt; whole.as_slice(), GRAPHS[1].as_bytes());
     Ok(())
 }
@@ -91,76 +145,72 @@ fn edge_count(graph: &Graph<JavaDatum>) -> usize {
     count
 }
 
-#[test]
-fn a_text_tells_the_edges_of_its_graph(rt: HostRuntime) -> Result<(), Fail> {
-    let alloc = rt.alloc();
-    let names = small_names(alloc)?;
-    let layout = small_layout(alloc, &names)?;
-    let files = small_sources(alloc)?;
-    let w = Listed {
-        layout: &layout,
-        names: &names,
-        files: &files,
-    };
-    let graph = small_graph(alloc, &layout)?;
-    let bytes = graph_text(alloc, &w, &graph)?;
-    let Ok(text) = std::str::from_utf8(&bytes) else {
-        return Err(Fail::new("no text"));
-    };
+/// The serial of the file or the type that a line names, the next behind that of the last one, or else that of the last one.
+fn serial_at(line: &str, last: u32) -> u32 {
+    if !line.starts_with("file ") && !line.starts_with("type ") {
+        return last;
+    }
+    if last == 8 {
+        11
+    } else {
+        last.saturating_add(1)
+    }
+}
+
+/// How many edges a text tells. It fails with the line of one that the graph has not.
+fn told_edges(
+    alloc: Global,
+    w: &Listed<'_>,
+    graph: &Graph<JavaDatum>,
+    text: &str,
+) -> Result<usize, Fail> {
     let mut told: usize = 0;
     let mut at: u32 = 6;
     for line in text.lines() {
-        if line.starts_with("file ") || line.starts_with("type ") {
-            at = if at == 8 { 11 } else { at.saturating_add(1) };
-        }
+        at = serial_at(line, at);
         if let Some((label, title)) = edge_line(line) {
-            assert!(rt;
-                is_told_edge(alloc, &w, &graph, scope(at), label, title)?,
-                "{line}"
-            );
+            if !is_told_edge(alloc, w, graph, scope(at), label, title)? {
+                return Err(Fail::new(line));
+            }
             told = told.saturating_add(1);
         }
     }
-    assert_eq!(rt; told, edge_count(&graph));
+    Ok(told)
+}
+
+/// How many edges the text of a graph tells.
+fn told_of(alloc: Global, s: &Folder, graph: &Graph<JavaDatum>) -> Result<usize, Fail>
+    requires { length s.now.files.items ≡ 2 }
+{
+    let bytes = text_of(alloc, s, graph)?;
+    match std::str::from_utf8(&bytes) {
+        Ok(text) => told_edges(alloc, &about(s), graph, text),
+        Err(_) => Err(Fail::new("no text")),
+    }
+}
+
+fn told_and_there_in(alloc: Global, s: &Folder) -> Result<(usize, usize), Fail>
+    requires { length s.now.files.items ≡ 2 }
+{
+    let graph = small_graph(alloc, &s.layout)?;
+    Ok((told_of(alloc, s, &graph)?, edge_count(&graph)))
+}
+
+/// How many edges the text of the whole graph tells, and how many leave the folder's own files and types there.
+fn told_and_there(alloc: Global) -> Result<(usize, usize), Fail> {
+    let s = make_small(alloc)?;
+    told_and_there_in(alloc, &s)
+}
+
+#[test]
+fn a_text_tells_the_edges_of_its_graph(rt: HostRuntime) -> Result<(), Fail> {
+    let (told, there) = told_and_there(rt.alloc())?;
+    assert_eq!(rt; told, there);
     assert_eq!(rt; told, 9);
     Ok(())
 }
 
-type Log = Vec<Entry<Java, DiagList>>;
-
-/// Adds an ask of a unit.
-fn ask(log: &mut Log, unit: u32, kind: u8, start: u32, pred: JavaPred) -> Result<(), AllocError> {
-    log.push(Entry {
-        unit,
-        op: Op::Ask(Query {
-            start: scope(start),
-            kind,
-            pred,
-        }),
-        reply: Reply::Moved,
-    })?;
-    Ok(())
-}
-
-/// Adds an advance of a unit.
-fn advance(log: &mut Log, unit: u32, reply: Reply<Java>) -> Result<(), AllocError> {
-    log.push(Entry {
-        unit,
-        op: Op::Advance,
-        reply,
-    })?;
-    Ok(())
-}
-
-/// Adds a unit's take of an answer.
-fn take(log: &mut Log, unit: u32, answer: Answer<JavaDatum>) -> Result<(), AllocError> {
-    log.push(Entry {
-        unit,
-        op: Op::Take,
-        reply: Reply::Answer(answer),
-    })?;
-    Ok(())
-}
+type LogEntry = Entry<Java, DiagList>;
 
 /// Adds a path by the labels and serials of its steps, with a datum.
 fn add(
@@ -189,46 +239,102 @@ fn paths(alloc: Global, start: u32, all: &[&[(u8, u32)]]) -> Result<Answer<JavaD
     Ok(Answer::Paths(FoundPaths::new(alloc, found)?))
 }
 
-fn named(number: u32) -> JavaPred {
-    JavaPred::Named(NameId(number))
+/// What a unit did: it asked a query by its kind, the serial of its start and what it wants, its search came to the end or
+/// to a wait, or it took paths, by the serial of their start, or took that there are too many.
+#[derive(Clone, Copy)]
+enum Did {
+    Ask(u8, u32, JavaPred),
+    Ready,
+    Suspended,
+    Take(u32, &'static [&'static [(u8, u32)]]),
+    TooMany,
 }
 
 /// Asks and answers of the units of `p/A.java` and of `p.A`, some twice, between those of others.
-fn small_log(alloc: Global) -> Result<Log, AllocError> {
+const DONE: [(u32, Did); 23] = [
+    (6, Did::Ask(3, 7, JavaPred::Named(NameId(B)))),
+    (2, Did::Ask(0, 0, JavaPred::Named(NameId(P)))),
+    (6, Did::Suspended),
+    (2, Did::Ready),
+    (6, Did::Ready),
+    (2, Did::Take(0, &[&[(labels::PKG, 4)]])),
+    (
+        6,
+        Did::Take(7, &[&[(labels::PKGOF, 4), (labels::TYPE, 11)]]),
+    ),
+    (4, Did::Ask(9, 9, JavaPred::Any)),
+    (4, Did::TooMany),
+    (6, Did::Ask(5, 11, JavaPred::Named(NameId(M)))),
+    (
+        6,
+        Did::Take(
+            11,
+            &[
+                &[(labels::METH, 24)],
+                &[(labels::EXT, 9), (labels::METH, 17)],
+            ],
+        ),
+    ),
+    (6, Did::Ask(3, 7, JavaPred::Named(NameId(B)))),
+    (
+        6,
+        Did::Take(7, &[&[(labels::PKGOF, 4), (labels::TYPE, 11)]]),
+    ),
+    (6, Did::Ask(9, 11, JavaPred::Any)),
+    (6, Did::Take(11, &[&[]])),
+    (6, Did::Ask(4, 11, JavaPred::Named(NameId(X)))),
+    (6, Did::Take(11, &[])),
+    (9, Did::Ask(9, 14, JavaPred::Any)),
+    (9, Did::TooMany),
+    (9, Did::Ask(8, 26, JavaPred::Any)),
+    (9, Did::Take(26, &[&[(labels::SIG, 38)]])),
+    (10, Did::Ask(7, 15, JavaPred::Any)),
+    (10, Did::Suspended),
+];
+
+fn asked(unit: u32, kind: u8, start: u32, pred: JavaPred) -> LogEntry {
+    Entry {
+        unit,
+        op: Op::Ask(Query {
+            start: scope(start),
+            kind,
+            pred,
+        }),
+        reply: Reply::Moved,
+    }
+}
+
+fn advanced(unit: u32, reply: Reply<Java>) -> LogEntry {
+    Entry {
+        unit,
+        op: Op::Advance,
+        reply,
+    }
+}
+
+fn taken(unit: u32, answer: Answer<JavaDatum>) -> LogEntry {
+    Entry {
+        unit,
+        op: Op::Take,
+        reply: Reply::Answer(answer),
+    }
+}
+
+fn entry_of(alloc: Global, unit: u32, did: Did) -> Result<LogEntry, AllocError> {
+    match did {
+        Did::Ask(kind, start, pred) => Ok(asked(unit, kind, start, pred)),
+        Did::Ready => Ok(advanced(unit, Reply::Ready)),
+        Did::Suspended => Ok(advanced(unit, Reply::Suspended)),
+        Did::Take(start, all) => Ok(taken(unit, paths(alloc, start, all)?)),
+        Did::TooMany => Ok(taken(unit, Answer::TooMany)),
+    }
+}
+
+fn small_log(alloc: Global) -> Result<Vec<LogEntry>, AllocError> {
     let mut log = Vec::new(alloc);
-    ask(&mut log, 6, 3, 7, named(B))?;
-    ask(&mut log, 2, 0, 0, named(P))?;
-    advance(&mut log, 6, Reply::Suspended)?;
-    advance(&mut log, 2, Reply::Ready)?;
-    advance(&mut log, 6, Reply::Ready)?;
-    take(&mut log, 2, paths(alloc, 0, &[&[(labels::PKG, 4)]])?)?;
-    take(
-        &mut log,
-        6,
-        paths(alloc, 7, &[&[(labels::PKGOF, 4), (labels::TYPE, 11)]])?,
-    )?;
-    ask(&mut log, 4, 9, 9, JavaPred::Any)?;
-    take(&mut log, 4, Answer::TooMany)?;
-    ask(&mut log, 6, 5, 11, named(M))?;
-    let own: &[(u8, u32)] = &[(labels::METH, 24)];
-    let above: &[(u8, u32)] = &[(labels::EXT, 9), (labels::METH, 17)];
-    take(&mut log, 6, paths(alloc, 11, &[own, above])?)?;
-    ask(&mut log, 6, 3, 7, named(B))?;
-    take(
-        &mut log,
-        6,
-        paths(alloc, 7, &[&[(labels::PKGOF, 4), (labels::TYPE, 11)]])?,
-    )?;
-    ask(&mut log, 6, 9, 11, JavaPred::Any)?;
-    take(&mut log, 6, paths(alloc, 11, &[&[]])?)?;
-    ask(&mut log, 6, 4, 11, named(X))?;
-    take(&mut log, 6, paths(alloc, 11, &[])?)?;
-    ask(&mut log, 9, 9, 14, JavaPred::Any)?;
-    take(&mut log, 9, Answer::TooMany)?;
-    ask(&mut log, 9, 8, 26, JavaPred::Any)?;
-    take(&mut log, 9, paths(alloc, 26, &[&[(labels::SIG, 38)]])?)?;
-    ask(&mut log, 10, 7, 15, JavaPred::Any)?;
-    advance(&mut log, 10, Reply::Suspended)?;
+    for (unit, did) in DONE {
+        log.push(entry_of(alloc, unit, did)?)?;
+    }
     Ok(log)
 }
 
@@ -239,21 +345,17 @@ const ANSWERS: [&str; 2] = [
     "unit p/A.java\nSUBPKG (root) p: (root) PKG p\nunit r/I.java\nunit p.A\nFIELDS p.A x: -\nFILETYPE p/A.java B: p/A.java PKGOF p TYPE p.A\nMETHODS p.A m: p.A METH p.A#m(); p.A EXT java.lang.Object METH java.lang.Object#m()\nSUPERS p.A *: p.A\nunit p.A.B\nunit p.A\nunit I\nSIG I#x *: I#x SIG I#x!\nSUPERS I *: *\nunit I.B\nend\n",
 ];
 
+fn listed_answers(alloc: Global, log: &[LogEntry]) -> Result<Vec<u8>, Fail> {
+    let s = make_small(alloc)?;
+    Ok(answers_text(alloc, &about(&s), log)?)
+}
+
 #[test]
 fn answers_of_a_small_folder(rt: HostRuntime) -> Result<(), Fail> {
-    let alloc = rt.alloc();
-    let names = small_names(alloc)?;
-    let layout = small_layout(alloc, &names)?;
-    let files = small_sources(alloc)?;
-    let w = Listed {
-        layout: &layout,
-        names: &names,
-        files: &files,
-    };
-    let none = answers_text(alloc, &w, &[])?;
+    let none = listed_answers(rt.alloc(), &[])?;
     assert_eq!(rt; none.as_slice(), ANSWERS[0].as_bytes());
-    let log = small_log(alloc)?;
-    let some = answers_text(alloc, &w, &log)?;
+    let log = small_log(rt.alloc())?;
+    let some = listed_answers(rt.alloc(), &log)?;
     assert_eq!(rt; some.as_slice(), ANSWERS[1].as_bytes());
     Ok(())
 }
