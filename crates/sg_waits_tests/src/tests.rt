@@ -8,6 +8,7 @@ use sg_base::{Label, Scope};
 use sg_state::Need;
 use sg_waits::{ShownItem, Waits};
 use std::alloc::{AllocError, Global};
+use std::process::Abort;
 use std::test::Fail;
 
 /// One of the rows that the tests wait for.
@@ -45,49 +46,86 @@ fn two(alloc: Global, first: &Need, second: &Need) -> Result<Waits, AllocError>
     Ok(waits)
 }
 
+/// Whether these units wait for one of the rows.
+fn is_waited_for(waits: &Waits, gone: &[Need], units: &[u32]) -> Result<bool, AllocError> {
+    let found = waits.waiting_for(gone)?;
+    Ok(found.as_slice() == units)
+}
+
+/// Whether the rows wake these units.
+fn wakes(waits: &mut Waits, gone: &[Need], units: &[u32]) -> Result<bool, AllocError> {
+    let woken = waits.woken_by(gone)?;
+    let is_slice = woken.as_slice() == units;
+    let listed = woken.into_vec();
+    Ok(is_slice && listed.as_slice() == units)
+}
+
+/// Makes one of three units wait for two rows and the others for one each.
+fn note_three(rt: &impl Abort, waits: &mut Waits) -> Result<(), AllocError> {
+    note_two(waits, 0, 1, 2)?;
+    note(waits, 1, 2)?;
+    assert!(rt; !waits.runnable(0) && waits.live(0) && !waits.is_stuck());
+    note(waits, 2, 5)?;
+    assert!(rt; waits.is_stuck());
+    assert_eq!(rt; waits.needs(0), [row(1), row(2)].as_slice());
+    Ok(())
+}
+
+/// Wakes two of these units, and once more none.
+fn wake_two(rt: &impl Abort, waits: &mut Waits) -> Result<(), AllocError> {
+    assert!(rt; is_waited_for(waits, &[row(2), row(5)], &[0, 1, 2])?);
+    assert!(rt; wakes(waits, &[row(1), row(2)], &[0, 1])?);
+    assert!(rt; waits.runnable(0) && waits.runnable(1) && !waits.runnable(2));
+    assert!(rt; !waits.is_stuck() && waits.needs(0).is_empty());
+    assert!(rt; wakes(waits, &[row(2), row(1)], &[])?);
+    Ok(())
+}
+
 #[test]
 fn two_needs_wake_once(rt: HostRuntime) -> Result<(), Fail> {
     let mut waits = Waits::open(rt.alloc(), 3)?;
     assert!(rt; waits.live(2) && !waits.live(3) && !waits.is_stuck());
-    note_two(&mut waits, 0, 1, 2)?;
-    note(&mut waits, 1, 2)?;
-    assert!(rt; !waits.runnable(0) && waits.live(0) && !waits.is_stuck());
-    note(&mut waits, 2, 5)?;
-    assert!(rt; waits.is_stuck());
-    assert_eq!(rt; waits.needs(0), [row(1), row(2)].as_slice());
-    let found = waits.waiting_for(&[row(2), row(5)])?;
-    assert_eq!(rt; found.as_slice(), [0, 1, 2].as_slice());
-    let woken = waits.woken_by(&[row(1), row(2)])?;
-    assert_eq!(rt; woken.as_slice(), [0, 1].as_slice());
-    assert_eq!(rt; woken.into_vec().as_slice(), [0, 1].as_slice());
-    assert!(rt; waits.runnable(0) && waits.runnable(1) && !waits.runnable(2));
-    assert!(rt; !waits.is_stuck() && waits.needs(0).is_empty());
-    let again = waits.woken_by(&[row(2), row(1)])?;
-    assert_eq!(rt; again.as_slice(), [].as_slice());
+    note_three(&rt, &mut waits)?;
+    wake_two(&rt, &mut waits)?;
+    Ok(())
+}
+
+/// Makes two units wait for a row, the first of them after another row, which then wakes none.
+fn note_later(rt: &impl Abort, waits: &mut Waits) -> Result<(), AllocError> {
+    note(waits, 0, 4)?;
+    note(waits, 0, 6)?;
+    note(waits, 1, 6)?;
+    assert!(rt; wakes(waits, &[row(4)], &[])?);
+    Ok(())
+}
+
+/// Forgets one of these units. Their row then wakes the other.
+fn forget_one(rt: &impl Abort, waits: &mut Waits) -> Result<(), AllocError> {
+    if waits.live(1) {
+        waits.forget(1);
+    }
+    assert!(rt; waits.runnable(1) && !waits.runnable(0));
+    assert!(rt; wakes(waits, &[row(6)], &[0])?);
+    Ok(())
+}
+
+/// Ends the other unit where it waits. Its row then wakes none.
+fn end_other(rt: &impl Abort, waits: &mut Waits) -> Result<(), AllocError> {
+    note(waits, 0, 6)?;
+    if waits.live(0) {
+        waits.end(0);
+    }
+    assert!(rt; !waits.live(0) && !waits.runnable(0) && waits.needs(0).is_empty());
+    assert!(rt; wakes(waits, &[row(6)], &[])?);
     Ok(())
 }
 
 #[test]
 fn forgotten_units_do_not_wake(rt: HostRuntime) -> Result<(), Fail> {
     let mut waits = Waits::open(rt.alloc(), 2)?;
-    note(&mut waits, 0, 4)?;
-    note(&mut waits, 0, 6)?;
-    note(&mut waits, 1, 6)?;
-    let earlier = waits.woken_by(&[row(4)])?;
-    assert_eq!(rt; earlier.as_slice(), [].as_slice());
-    if waits.live(1) {
-        waits.forget(1);
-    }
-    assert!(rt; waits.runnable(1) && !waits.runnable(0));
-    let woken = waits.woken_by(&[row(6)])?;
-    assert_eq!(rt; woken.as_slice(), [0].as_slice());
-    note(&mut waits, 0, 6)?;
-    if waits.live(0) {
-        waits.end(0);
-    }
-    assert!(rt; !waits.live(0) && !waits.runnable(0) && waits.needs(0).is_empty());
-    let ended = waits.woken_by(&[row(6)])?;
-    assert_eq!(rt; ended.as_slice(), [].as_slice());
+    note_later(&rt, &mut waits)?;
+    forget_one(&rt, &mut waits)?;
+    end_other(&rt, &mut waits)?;
     Ok(())
 }
 

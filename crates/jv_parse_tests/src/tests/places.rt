@@ -7,6 +7,7 @@ use jv_lex::{Token, lex};
 use jv_parse::{ParseFault, parse};
 use jv_tree::Names;
 use std::alloc::Global;
+use std::process::Abort;
 use std::test::Fail;
 
 /// Where tokens are refused, or nothing where they are a file.
@@ -16,8 +17,14 @@ fn place(alloc: Global, source: &str, tokens: &[Token]) -> Result<Option<u32>, F
 {
     match parse(alloc, source, tokens, &mut Names::new(alloc)) {
         Ok(_) => Ok(None),
-        Err(ParseFault::NotInGrammar { token }) => Ok(Some(token)),
-        Err(_) => Err(Fail::new("another fault")),
+        Err(fault) => place_of_fault(fault),
+    }
+}
+
+fn place_of_fault(fault: ParseFault) -> Result<Option<u32>, Fail> {
+    match fault {
+        ParseFault::NotInGrammar { token } => Ok(Some(token)),
+        _ => Err(Fail::new("another fault")),
     }
 }
 
@@ -245,12 +252,24 @@ fn place_in(alloc: Global, source: &str) -> Result<Option<u32>, Fail>
 
 #[test]
 fn numbers_of_refused_tokens(rt: HostRuntime) -> Result<(), Fail> {
-    for (source, wanted) in NUMBERS {
+    for (source, wanted) in &NUMBERS {
         assert!(rt; source.len() < 1000);
         let found = place_in(rt.alloc(), source)?;
-        assert_eq!(rt; found, Some(wanted), "{source}");
+        assert_eq!(rt; found, Some(*wanted), "{source}");
     }
     Ok(())
+}
+
+/// Whether the source of two parts is refused where the first of them ends.
+fn is_cut_behind(alloc: Global, front: &str, rest: &str) -> Result<bool, Fail> {
+    if front.len() + rest.len() > 1000 {
+        return Err(Fail::new("too long"));
+    }
+    let wanted = count_of(alloc, front)?;
+    let mut source = String::from_str(alloc, front)?;
+    source.push_str(rest)?;
+    let found = place_in(alloc, source.as_str())?;
+    Ok(found == Some(wanted))
 }
 
 /// The first of these sources that is refused elsewhere than where it is cut, where there is one.
@@ -259,101 +278,81 @@ fn first_misplaced<'a>(
     sources: &[(&'a str, &'a str)],
 ) -> Result<Option<&'a str>, Fail> {
     for (front, rest) in sources {
-        if front.len() + rest.len() > 1000 {
-            return Err(Fail::new("too long"));
-        }
-        let wanted = count_of(alloc, front)?;
-        let mut source = String::from_str(alloc, front)?;
-        source.push_str(rest)?;
-        if place_in(alloc, source.as_str())? != Some(wanted) {
+        if !is_cut_behind(alloc, front, rest)? {
             return Ok(Some(front));
         }
     }
     Ok(None)
 }
 
-#[test]
-fn package_are_cut_where_they_cease(rt: HostRuntime) -> Result<(), Fail> {
-    let misplaced = first_misplaced(rt.alloc(), &PACKAGE)?;
+fn cease_where_cut<'a>(
+    rt: &impl Abort,
+    alloc: Global,
+    sources: &[(&'a str, &'a str)],
+) -> Result<(), Fail> {
+    let misplaced = first_misplaced(alloc, sources)?;
     assert_eq!(rt; misplaced, None);
     Ok(())
+}
+
+#[test]
+fn package_are_cut_where_they_cease(rt: HostRuntime) -> Result<(), Fail> {
+    cease_where_cut(&rt, rt.alloc(), &PACKAGE)
 }
 
 #[test]
 fn imports_are_cut_where_they_cease(rt: HostRuntime) -> Result<(), Fail> {
-    let misplaced = first_misplaced(rt.alloc(), &IMPORTS)?;
-    assert_eq!(rt; misplaced, None);
-    Ok(())
+    cease_where_cut(&rt, rt.alloc(), &IMPORTS)
 }
 
 #[test]
 fn headers_are_cut_where_they_cease(rt: HostRuntime) -> Result<(), Fail> {
-    let misplaced = first_misplaced(rt.alloc(), &HEADERS)?;
-    assert_eq!(rt; misplaced, None);
-    Ok(())
+    cease_where_cut(&rt, rt.alloc(), &HEADERS)
 }
 
 #[test]
 fn members_first_part_are_cut_where_they_cease(rt: HostRuntime) -> Result<(), Fail> {
-    let misplaced = first_misplaced(rt.alloc(), &MEMBERS_FIRST_PART)?;
-    assert_eq!(rt; misplaced, None);
-    Ok(())
+    cease_where_cut(&rt, rt.alloc(), &MEMBERS_FIRST_PART)
 }
 
 #[test]
 fn members_second_part_are_cut_where_they_cease(rt: HostRuntime) -> Result<(), Fail> {
-    let misplaced = first_misplaced(rt.alloc(), &MEMBERS_SECOND_PART)?;
-    assert_eq!(rt; misplaced, None);
-    Ok(())
+    cease_where_cut(&rt, rt.alloc(), &MEMBERS_SECOND_PART)
 }
 
 #[test]
 fn statements_first_part_are_cut_where_they_cease(rt: HostRuntime) -> Result<(), Fail> {
-    let misplaced = first_misplaced(rt.alloc(), &STATEMENTS_FIRST_PART)?;
-    assert_eq!(rt; misplaced, None);
-    Ok(())
+    cease_where_cut(&rt, rt.alloc(), &STATEMENTS_FIRST_PART)
 }
 
 #[test]
 fn statements_second_part_are_cut_where_they_cease(rt: HostRuntime) -> Result<(), Fail> {
-    let misplaced = first_misplaced(rt.alloc(), &STATEMENTS_SECOND_PART)?;
-    assert_eq!(rt; misplaced, None);
-    Ok(())
+    cease_where_cut(&rt, rt.alloc(), &STATEMENTS_SECOND_PART)
 }
 
 #[test]
 fn expressions_first_part_are_cut_where_they_cease(rt: HostRuntime) -> Result<(), Fail> {
-    let misplaced = first_misplaced(rt.alloc(), &EXPRESSIONS_FIRST_PART)?;
-    assert_eq!(rt; misplaced, None);
-    Ok(())
+    cease_where_cut(&rt, rt.alloc(), &EXPRESSIONS_FIRST_PART)
 }
 
 #[test]
 fn expressions_second_part_are_cut_where_they_cease(rt: HostRuntime) -> Result<(), Fail> {
-    let misplaced = first_misplaced(rt.alloc(), &EXPRESSIONS_SECOND_PART)?;
-    assert_eq!(rt; misplaced, None);
-    Ok(())
+    cease_where_cut(&rt, rt.alloc(), &EXPRESSIONS_SECOND_PART)
 }
 
 #[test]
 fn casts_are_cut_where_they_cease(rt: HostRuntime) -> Result<(), Fail> {
-    let misplaced = first_misplaced(rt.alloc(), &CASTS)?;
-    assert_eq!(rt; misplaced, None);
-    Ok(())
+    cease_where_cut(&rt, rt.alloc(), &CASTS)
 }
 
 #[test]
 fn array_creations_are_cut_where_they_cease(rt: HostRuntime) -> Result<(), Fail> {
-    let misplaced = first_misplaced(rt.alloc(), &ARRAY_CREATIONS)?;
-    assert_eq!(rt; misplaced, None);
-    Ok(())
+    cease_where_cut(&rt, rt.alloc(), &ARRAY_CREATIONS)
 }
 
 #[test]
 fn literals_at_the_end_are_cut_where_they_cease(rt: HostRuntime) -> Result<(), Fail> {
-    let misplaced = first_misplaced(rt.alloc(), &LITERALS_AT_THE_END)?;
-    assert_eq!(rt; misplaced, None);
-    Ok(())
+    cease_where_cut(&rt, rt.alloc(), &LITERALS_AT_THE_END)
 }
 
 /// Files of the profile.
@@ -363,19 +362,33 @@ const FILES: [&str; 3] = [
     "interface I { int A = 1, B = {}; int[] f(); } class A { A(int a) { super(a, \"s\"); this.a = ((a)) - 1; } }",
 ];
 
+/// Asserts of each front of a file that it begins one.
+fn fronts_begin_files(
+    rt: &impl Abort,
+    alloc: Global,
+    source: &str,
+    tokens: &[Token],
+) -> Result<(), Fail>
+    requires placed { All (IsPlaced source.now) tokens.now }
+    requires few { length tokens.now ≤ 1048576 }
+{
+    let whole = place(alloc, source, tokens)?;
+    assert_eq!(rt; whole, None, "{source}");
+    for count in 0..tokens.len() {
+        let found = place_of_front(alloc, source, tokens, count)?;
+        let begins = found.is_none() || found == Some(count as u32);
+        assert!(rt; begins, "{count}: {source}");
+    }
+    Ok(())
+}
+
 #[test]
 fn fronts_of_files_begin_files(rt: HostRuntime) -> Result<(), Fail> {
-    for source in FILES {
+    for source in &FILES {
         assert!(rt; source.len() < 1000);
         let tokens = lex(rt.alloc(), source.as_bytes())?;
         assert!(rt; tokens.len() < 1000);
-        let whole = place(rt.alloc(), source, &tokens)?;
-        assert_eq!(rt; whole, None, "{source}");
-        for count in 0..tokens.len() {
-            let found = place_of_front(rt.alloc(), source, &tokens, count)?;
-            let begins = found.is_none() || found == Some(count as u32);
-            assert!(rt; begins, "{count}: {source}");
-        }
+        fronts_begin_files(&rt, rt.alloc(), source, &tokens)?;
     }
     Ok(())
 }

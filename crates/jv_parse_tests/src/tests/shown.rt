@@ -1,8 +1,8 @@
 //! Trees as texts. Each part has a blank in front, and what holds other parts stands in brackets.
 
 use jv_tree::{
-    Base, Expr, ExprKind, Ident, Init, Member, Mods, Name, Names, Operand, Param, Stmt, StmtKind,
-    Target, TypeDecl, TypeRef, Unit, Var,
+    Base, Ctor, Expr, ExprKind, Ident, Import, Init, Member, Method, Mods, Name, Names, Operand,
+    Param, Stmt, StmtKind, Target, TypeDecl, TypeRef, Unit, Var,
 };
 use std::alloc::{AllocError, Global};
 use std::fmt::Write;
@@ -22,42 +22,50 @@ enum Part<'a> {
     Decl(&'a TypeDecl),
 }
 
-type Parts<'a> = Result<Vec<Part<'a>>, AllocError>;
+fn put<'a>(parts: &mut Vec<Part<'a>>, part: Part<'a>) -> Result<(), AllocError> {
+    parts.push(part)?;
+    Ok(())
+}
+
+fn put_all<'a>(parts: &mut Vec<Part<'a>>, others: &[Part<'a>]) -> Result<(), AllocError> {
+    for part in others {
+        put(parts, *part)?;
+    }
+    Ok(())
+}
 
 fn put_exprs<'a>(parts: &mut Vec<Part<'a>>, exprs: &'a [Expr]) -> Result<(), AllocError> {
     for expr in exprs {
-        parts.push(Part::Expr(expr))?;
+        put(parts, Part::Expr(expr))?;
     }
     Ok(())
 }
 
 fn put_inits<'a>(parts: &mut Vec<Part<'a>>, inits: &'a [Init]) -> Result<(), AllocError> {
     for init in inits {
-        parts.push(Part::Init(init))?;
+        put(parts, Part::Init(init))?;
     }
     Ok(())
 }
 
 fn put_stmts<'a>(parts: &mut Vec<Part<'a>>, stmts: &'a [Stmt]) -> Result<(), AllocError> {
     for stmt in stmts {
-        parts.push(Part::Stmt(stmt))?;
+        put(parts, Part::Stmt(stmt))?;
     }
     Ok(())
 }
 
 fn put_block<'a>(parts: &mut Vec<Part<'a>>, stmts: &'a [Stmt]) -> Result<(), AllocError> {
-    parts.push(Part::Text(" {"))?;
+    put(parts, Part::Text(" {"))?;
     put_stmts(parts, stmts)?;
-    parts.push(Part::Text(" }"))?;
-    Ok(())
+    put(parts, Part::Text(" }"))
 }
 
 fn put_vars<'a>(parts: &mut Vec<Part<'a>>, vars: &'a [Var]) -> Result<(), AllocError> {
     for var in vars {
-        parts.push(Part::Ident(var.name))?;
+        put(parts, Part::Ident(var.name))?;
         if let Some(init) = &var.init {
-            parts.push(Part::Text(" ="))?;
-            parts.push(Part::Init(init))?;
+            put_all(parts, &[Part::Text(" ="), Part::Init(init)])?;
         }
     }
     Ok(())
@@ -65,17 +73,17 @@ fn put_vars<'a>(parts: &mut Vec<Part<'a>>, vars: &'a [Var]) -> Result<(), AllocE
 
 fn put_mods<'a>(parts: &mut Vec<Part<'a>>, mods: &'a Mods) -> Result<(), AllocError> {
     for word in &mods.words {
-        parts.push(Part::Number(*word))?;
+        put(parts, Part::Number(*word))?;
     }
     Ok(())
 }
 
 fn put_params<'a>(parts: &mut Vec<Part<'a>>, params: &'a [Param]) -> Result<(), AllocError> {
     for param in params {
-        parts.push(Part::Text(if param.is_final { " (final" } else { " (param" }))?;
-        parts.push(Part::Type(&param.ty))?;
-        parts.push(Part::Ident(param.name))?;
-        parts.push(Part::Text(")"))?;
+        let word = if param.is_final { " (final" } else { " (param" };
+        let ty = Part::Type(&param.ty);
+        let name = Part::Ident(param.name);
+        put_all(parts, &[Part::Text(word), ty, name, Part::Text(")")])?;
     }
     Ok(())
 }
@@ -86,10 +94,10 @@ fn put_names<'a>(
     names: &'a [Name],
 ) -> Result<(), AllocError> {
     if !names.is_empty() {
-        parts.push(Part::Text(word))?;
+        put(parts, Part::Text(word))?;
     }
     for name in names {
-        parts.push(Part::Name(name))?;
+        put(parts, Part::Name(name))?;
     }
     Ok(())
 }
@@ -108,61 +116,71 @@ fn word_of<'a>(kind: &ExprKind) -> Option<&'a str> {
     }
 }
 
-fn parts_of_expr<'a>(alloc: Global, expr: &'a Expr) -> Parts<'a> {
-    let mut parts = Vec::new(alloc);
+fn put_expr<'a>(parts: &mut Vec<Part<'a>>, expr: &'a Expr) -> Result<(), AllocError> {
     if let Some(word) = word_of(&expr.kind) {
-        parts.push(Part::Text(word))?;
-        return Ok(parts);
+        return put(parts, Part::Text(word));
     }
     if let ExprKind::Name(name) = &expr.kind {
-        parts.push(Part::Name(name))?;
-        return Ok(parts);
+        return put(parts, Part::Name(name));
     }
-    parts.push(Part::Text(" ("))?;
-    put_operation(&mut parts, &expr.kind)?;
-    put_primary(&mut parts, &expr.kind)?;
-    parts.push(Part::Text(")"))?;
-    Ok(parts)
+    put(parts, Part::Text(" ("))?;
+    put_operation(parts, &expr.kind)?;
+    put_primary(parts, &expr.kind)?;
+    put(parts, Part::Text(")"))
 }
 
 /// An operator with its operands.
 fn put_operation<'a>(parts: &mut Vec<Part<'a>>, kind: &'a ExprKind) -> Result<(), AllocError> {
     match kind {
-        ExprKind::Pre(_, operator, of) => {
-            parts.push(Part::Text("pre"))?;
-            parts.push(Part::Number(*operator))?;
-            parts.push(Part::Expr(of))?;
-        }
-        ExprKind::Post(_, operator, of) => {
-            parts.push(Part::Text("post"))?;
-            parts.push(Part::Number(*operator))?;
-            parts.push(Part::Expr(of))?;
-        }
-        ExprKind::Chain(first, others) => {
-            parts.push(Part::Text("chain"))?;
-            parts.push(Part::Expr(first))?;
-            put_links(parts, others)?;
-        }
-        ExprKind::Cond(test, yes, no) => {
-            parts.push(Part::Text("?"))?;
-            parts.push(Part::Expr(test))?;
-            parts.push(Part::Expr(yes))?;
-            parts.push(Part::Expr(no))?;
-        }
-        ExprKind::Assign(_, operator, left, right) => {
-            parts.push(Part::Text("assign"))?;
-            parts.push(Part::Number(*operator))?;
-            parts.push(Part::Expr(left))?;
-            parts.push(Part::Expr(right))?;
-        }
-        ExprKind::Cast(ty, of) => {
-            parts.push(Part::Text("cast"))?;
-            parts.push(Part::Type(ty))?;
-            parts.push(Part::Expr(of))?;
-        }
-        _ => {}
+        ExprKind::Pre(_, operator, of) => put_all(
+            parts,
+            &[Part::Text("pre"), Part::Number(*operator), Part::Expr(of)],
+        ),
+        ExprKind::Post(_, operator, of) => put_all(
+            parts,
+            &[Part::Text("post"), Part::Number(*operator), Part::Expr(of)],
+        ),
+        ExprKind::Chain(first, others) => put_chain(parts, first, others),
+        _ => put_choice(parts, kind),
     }
-    Ok(())
+}
+
+/// A conditional expression, an assignment or a cast.
+fn put_choice<'a>(parts: &mut Vec<Part<'a>>, kind: &'a ExprKind) -> Result<(), AllocError> {
+    match kind {
+        ExprKind::Cond(test, yes, no) => put_all(
+            parts,
+            &[
+                Part::Text("?"),
+                Part::Expr(test),
+                Part::Expr(yes),
+                Part::Expr(no),
+            ],
+        ),
+        ExprKind::Assign(_, operator, left, right) => put_all(
+            parts,
+            &[
+                Part::Text("assign"),
+                Part::Number(*operator),
+                Part::Expr(left),
+                Part::Expr(right),
+            ],
+        ),
+        ExprKind::Cast(ty, of) => put_all(
+            parts,
+            &[Part::Text("cast"), Part::Type(ty), Part::Expr(of)],
+        ),
+        _ => Ok(()),
+    }
+}
+
+fn put_chain<'a>(
+    parts: &mut Vec<Part<'a>>,
+    first: &'a Expr,
+    others: &'a [(u32, u8, Operand)],
+) -> Result<(), AllocError> {
+    put_all(parts, &[Part::Text("chain"), Part::Expr(first)])?;
+    put_links(parts, others)
 }
 
 fn put_links<'a>(
@@ -170,10 +188,10 @@ fn put_links<'a>(
     links: &'a [(u32, u8, Operand)],
 ) -> Result<(), AllocError> {
     for (_, operator, operand) in links {
-        parts.push(Part::Number(*operator))?;
+        put(parts, Part::Number(*operator))?;
         match operand {
-            Operand::Expr(of) => parts.push(Part::Expr(of))?,
-            Operand::Of(ty) => parts.push(Part::Type(ty))?,
+            Operand::Expr(of) => put(parts, Part::Expr(of))?,
+            Operand::Of(ty) => put(parts, Part::Type(ty))?,
         }
     }
     Ok(())
@@ -182,221 +200,253 @@ fn put_links<'a>(
 /// A field, a call, an index, or what `new` makes.
 fn put_primary<'a>(parts: &mut Vec<Part<'a>>, kind: &'a ExprKind) -> Result<(), AllocError> {
     match kind {
-        ExprKind::Field(object, ident) => {
-            parts.push(Part::Text("."))?;
-            parts.push(Part::Expr(object))?;
-            parts.push(Part::Ident(*ident))?;
-        }
+        ExprKind::Field(object, ident) => put_all(
+            parts,
+            &[Part::Text("."), Part::Expr(object), Part::Ident(*ident)],
+        ),
         ExprKind::SuperField(ident) => {
-            parts.push(Part::Text(". super"))?;
-            parts.push(Part::Ident(*ident))?;
+            put_all(parts, &[Part::Text(". super"), Part::Ident(*ident)])
         }
-        ExprKind::Call(target, ident, arguments) => {
-            parts.push(Part::Text("call"))?;
-            match target {
-                Target::Bare => {}
-                Target::On(object) => {
-                    parts.push(Part::Expr(object))?;
-                    parts.push(Part::Text(" ."))?;
-                }
-                Target::Super => parts.push(Part::Text(" super ."))?,
-            }
-            parts.push(Part::Ident(*ident))?;
-            put_exprs(parts, arguments)?;
-        }
-        ExprKind::Index(array, place) => {
-            parts.push(Part::Text("at"))?;
-            parts.push(Part::Expr(array))?;
-            parts.push(Part::Expr(place))?;
-        }
+        ExprKind::Call(target, ident, arguments) => put_call(parts, target, *ident, arguments),
+        ExprKind::Index(array, place) => put_all(
+            parts,
+            &[Part::Text("at"), Part::Expr(array), Part::Expr(place)],
+        ),
+        _ => put_new(parts, kind),
+    }
+}
+
+fn put_call<'a>(
+    parts: &mut Vec<Part<'a>>,
+    target: &'a Target,
+    ident: Ident,
+    arguments: &'a [Expr],
+) -> Result<(), AllocError> {
+    put(parts, Part::Text("call"))?;
+    put_target(parts, target)?;
+    put(parts, Part::Ident(ident))?;
+    put_exprs(parts, arguments)
+}
+
+fn put_target<'a>(parts: &mut Vec<Part<'a>>, target: &'a Target) -> Result<(), AllocError> {
+    match target {
+        Target::Bare => Ok(()),
+        Target::On(object) => put_all(parts, &[Part::Expr(object), Part::Text(" .")]),
+        Target::Super => put(parts, Part::Text(" super .")),
+    }
+}
+
+/// What `new` makes.
+fn put_new<'a>(parts: &mut Vec<Part<'a>>, kind: &'a ExprKind) -> Result<(), AllocError> {
+    match kind {
         ExprKind::New(name, arguments) => {
-            parts.push(Part::Text("new"))?;
-            parts.push(Part::Name(name))?;
-            put_exprs(parts, arguments)?;
+            put_all(parts, &[Part::Text("new"), Part::Name(name)])?;
+            put_exprs(parts, arguments)
         }
         ExprKind::NewArray(ty, sizes) => {
-            parts.push(Part::Text("array"))?;
-            parts.push(Part::Type(ty))?;
-            put_exprs(parts, sizes)?;
+            put_all(parts, &[Part::Text("array"), Part::Type(ty)])?;
+            put_exprs(parts, sizes)
         }
         ExprKind::NewList(ty, elements) => {
-            parts.push(Part::Text("list"))?;
-            parts.push(Part::Type(ty))?;
-            put_inits(parts, elements)?;
+            put_all(parts, &[Part::Text("list"), Part::Type(ty)])?;
+            put_inits(parts, elements)
         }
-        _ => {}
+        _ => Ok(()),
     }
-    Ok(())
 }
 
-fn parts_of_init<'a>(alloc: Global, init: &'a Init) -> Parts<'a> {
-    let mut parts = Vec::new(alloc);
+fn put_init<'a>(parts: &mut Vec<Part<'a>>, init: &'a Init) -> Result<(), AllocError> {
     match init {
-        Init::One(expr) => parts.push(Part::Expr(expr))?,
+        Init::One(expr) => put(parts, Part::Expr(expr)),
         Init::List(_, elements) => {
-            parts.push(Part::Text(" {"))?;
-            put_inits(&mut parts, elements)?;
-            parts.push(Part::Text(" }"))?;
+            put(parts, Part::Text(" {"))?;
+            put_inits(parts, elements)?;
+            put(parts, Part::Text(" }"))
         }
     }
-    Ok(parts)
 }
 
-fn parts_of_stmt<'a>(alloc: Global, stmt: &'a Stmt) -> Parts<'a> {
-    let mut parts = Vec::new(alloc);
+fn put_stmt<'a>(parts: &mut Vec<Part<'a>>, stmt: &'a Stmt) -> Result<(), AllocError> {
     match &stmt.kind {
-        StmtKind::Empty => parts.push(Part::Text(" ;"))?,
-        StmtKind::Break => parts.push(Part::Text(" break"))?,
-        StmtKind::Continue => parts.push(Part::Text(" continue"))?,
-        StmtKind::Block(inner) => put_block(&mut parts, inner)?,
+        StmtKind::Empty => put(parts, Part::Text(" ;")),
+        StmtKind::Break => put(parts, Part::Text(" break")),
+        StmtKind::Continue => put(parts, Part::Text(" continue")),
+        StmtKind::Block(inner) => put_block(parts, inner),
         kind => {
-            parts.push(Part::Text(" ("))?;
-            put_simple(&mut parts, kind)?;
-            put_guarded(&mut parts, kind)?;
-            parts.push(Part::Text(")"))?;
+            put(parts, Part::Text(" ("))?;
+            put_simple(parts, kind)?;
+            put_guarded(parts, kind)?;
+            put(parts, Part::Text(")"))
         }
     }
-    Ok(parts)
 }
 
 /// A statement without others in it.
 fn put_simple<'a>(parts: &mut Vec<Part<'a>>, kind: &'a StmtKind) -> Result<(), AllocError> {
     match kind {
         StmtKind::Local(is_final, ty, vars) => {
-            parts.push(Part::Text(if *is_final { "final" } else { "local" }))?;
-            parts.push(Part::Type(ty))?;
-            put_vars(parts, vars)?;
+            let word = if *is_final { "final" } else { "local" };
+            put_all(parts, &[Part::Text(word), Part::Type(ty)])?;
+            put_vars(parts, vars)
         }
-        StmtKind::Effect(expr) => {
-            parts.push(Part::Text("do"))?;
-            parts.push(Part::Expr(expr))?;
-        }
-        StmtKind::Return(value) => {
-            parts.push(Part::Text("return"))?;
-            if let Some(expr) = value {
-                parts.push(Part::Expr(expr))?;
-            }
-        }
-        _ => {}
+        StmtKind::Effect(expr) => put_all(parts, &[Part::Text("do"), Part::Expr(expr)]),
+        StmtKind::Return(Some(expr)) => put_all(parts, &[Part::Text("return"), Part::Expr(expr)]),
+        StmtKind::Return(None) => put(parts, Part::Text("return")),
+        _ => Ok(()),
     }
-    Ok(())
 }
 
 /// An `if` or a loop.
 fn put_guarded<'a>(parts: &mut Vec<Part<'a>>, kind: &'a StmtKind) -> Result<(), AllocError> {
     match kind {
         StmtKind::If(branches, otherwise) => {
-            parts.push(Part::Text("if"))?;
-            for (test, stmt) in branches {
-                parts.push(Part::Expr(test))?;
-                parts.push(Part::Stmt(stmt))?;
-            }
-            if let Some(stmt) = otherwise {
-                parts.push(Part::Text(" else"))?;
-                parts.push(Part::Stmt(stmt))?;
+            put_branches(parts, branches)?;
+            match otherwise {
+                Some(stmt) => put_all(parts, &[Part::Text(" else"), Part::Stmt(stmt)]),
+                None => Ok(()),
             }
         }
-        StmtKind::While(test, body) => {
-            parts.push(Part::Text("while"))?;
-            parts.push(Part::Expr(test))?;
-            parts.push(Part::Stmt(body))?;
-        }
-        StmtKind::Do(body, test) => {
-            parts.push(Part::Text("repeat"))?;
-            parts.push(Part::Stmt(body))?;
-            parts.push(Part::Expr(test))?;
-        }
+        StmtKind::While(test, body) => put_all(
+            parts,
+            &[Part::Text("while"), Part::Expr(test), Part::Stmt(body)],
+        ),
+        StmtKind::Do(body, test) => put_all(
+            parts,
+            &[Part::Text("repeat"), Part::Stmt(body), Part::Expr(test)],
+        ),
         StmtKind::For(first, test, after, body) => {
-            parts.push(Part::Text("for"))?;
-            put_stmts(parts, first)?;
-            parts.push(Part::Text(" ,"))?;
-            if let Some(expr) = test {
-                parts.push(Part::Expr(expr))?;
-            }
-            parts.push(Part::Text(" ,"))?;
-            put_exprs(parts, after)?;
-            parts.push(Part::Text(" ,"))?;
-            parts.push(Part::Stmt(body))?;
+            put_heading(parts, first, test.as_ref(), after)?;
+            put(parts, Part::Stmt(body))
         }
-        _ => {}
+        _ => Ok(()),
+    }
+}
+
+fn put_branches<'a>(
+    parts: &mut Vec<Part<'a>>,
+    branches: &'a [(Expr, Stmt)],
+) -> Result<(), AllocError> {
+    put(parts, Part::Text("if"))?;
+    for (test, stmt) in branches {
+        put_all(parts, &[Part::Expr(test), Part::Stmt(stmt)])?;
     }
     Ok(())
 }
 
-fn parts_of_member<'a>(alloc: Global, member: &'a Member) -> Parts<'a> {
-    let mut parts = Vec::new(alloc);
-    match member {
-        Member::Nested(decl) => parts.push(Part::Decl(decl))?,
-        Member::Field(mods, ty, vars) => {
-            parts.push(Part::Text(" (field"))?;
-            put_mods(&mut parts, mods)?;
-            parts.push(Part::Type(ty))?;
-            put_vars(&mut parts, vars)?;
-            parts.push(Part::Text(")"))?;
-        }
-        Member::Method(method) => {
-            parts.push(Part::Text(" (method"))?;
-            put_mods(&mut parts, &method.mods)?;
-            parts.push(Part::Type(&method.result))?;
-            parts.push(Part::Ident(method.name))?;
-            put_params(&mut parts, &method.params)?;
-            match &method.body {
-                Some(body) => put_block(&mut parts, body)?,
-                None => parts.push(Part::Text(" ;"))?,
-            }
-            parts.push(Part::Text(")"))?;
-        }
-        Member::Ctor(ctor) => {
-            parts.push(Part::Text(" (ctor"))?;
-            put_mods(&mut parts, &ctor.mods)?;
-            parts.push(Part::Ident(ctor.name))?;
-            put_params(&mut parts, &ctor.params)?;
-            if let Some((_, arguments)) = &ctor.call {
-                parts.push(Part::Text(" (super"))?;
-                put_exprs(&mut parts, arguments)?;
-                parts.push(Part::Text(")"))?;
-            }
-            put_block(&mut parts, &ctor.body)?;
-            parts.push(Part::Text(")"))?;
-        }
+/// What stands in the parentheses of a `for`.
+fn put_heading<'a>(
+    parts: &mut Vec<Part<'a>>,
+    first: &'a [Stmt],
+    test: Option<&'a Expr>,
+    after: &'a [Expr],
+) -> Result<(), AllocError> {
+    put(parts, Part::Text("for"))?;
+    put_stmts(parts, first)?;
+    put(parts, Part::Text(" ,"))?;
+    if let Some(expr) = test {
+        put(parts, Part::Expr(expr))?;
     }
-    Ok(parts)
+    put(parts, Part::Text(" ,"))?;
+    put_exprs(parts, after)?;
+    put(parts, Part::Text(" ,"))
 }
 
-fn parts_of_decl<'a>(alloc: Global, decl: &'a TypeDecl) -> Parts<'a> {
-    let mut parts = Vec::new(alloc);
-    parts.push(Part::Text(if decl.interface {
+fn put_member<'a>(parts: &mut Vec<Part<'a>>, member: &'a Member) -> Result<(), AllocError> {
+    match member {
+        Member::Nested(decl) => put(parts, Part::Decl(decl)),
+        Member::Field(mods, ty, vars) => put_field(parts, mods, ty, vars),
+        Member::Method(method) => put_method(parts, method),
+        Member::Ctor(ctor) => put_ctor(parts, ctor),
+    }
+}
+
+fn put_field<'a>(
+    parts: &mut Vec<Part<'a>>,
+    mods: &'a Mods,
+    ty: &'a TypeRef,
+    vars: &'a [Var],
+) -> Result<(), AllocError> {
+    put(parts, Part::Text(" (field"))?;
+    put_mods(parts, mods)?;
+    put(parts, Part::Type(ty))?;
+    put_vars(parts, vars)?;
+    put(parts, Part::Text(")"))
+}
+
+fn put_method<'a>(parts: &mut Vec<Part<'a>>, method: &'a Method) -> Result<(), AllocError> {
+    put(parts, Part::Text(" (method"))?;
+    put_mods(parts, &method.mods)?;
+    put_all(
+        parts,
+        &[Part::Type(&method.result), Part::Ident(method.name)],
+    )?;
+    put_params(parts, &method.params)?;
+    match &method.body {
+        Some(body) => put_block(parts, body)?,
+        None => put(parts, Part::Text(" ;"))?,
+    }
+    put(parts, Part::Text(")"))
+}
+
+fn put_ctor<'a>(parts: &mut Vec<Part<'a>>, ctor: &'a Ctor) -> Result<(), AllocError> {
+    put(parts, Part::Text(" (ctor"))?;
+    put_mods(parts, &ctor.mods)?;
+    put(parts, Part::Ident(ctor.name))?;
+    put_params(parts, &ctor.params)?;
+    if let Some((_, arguments)) = &ctor.call {
+        put_super(parts, arguments)?;
+    }
+    put_block(parts, &ctor.body)?;
+    put(parts, Part::Text(")"))
+}
+
+fn put_super<'a>(parts: &mut Vec<Part<'a>>, arguments: &'a [Expr]) -> Result<(), AllocError> {
+    put(parts, Part::Text(" (super"))?;
+    put_exprs(parts, arguments)?;
+    put(parts, Part::Text(")"))
+}
+
+fn put_decl<'a>(parts: &mut Vec<Part<'a>>, decl: &'a TypeDecl) -> Result<(), AllocError> {
+    let word = if decl.interface {
         " (interface"
     } else {
         " (class"
-    }))?;
-    put_mods(&mut parts, &decl.mods)?;
-    parts.push(Part::Ident(decl.name))?;
-    put_names(&mut parts, " extends", &decl.extends)?;
-    put_names(&mut parts, " implements", &decl.implements)?;
-    for member in &decl.members {
-        parts.push(Part::Member(member))?;
-    }
-    parts.push(Part::Text(")"))?;
-    Ok(parts)
+    };
+    put(parts, Part::Text(word))?;
+    put_mods(parts, &decl.mods)?;
+    put(parts, Part::Ident(decl.name))?;
+    put_names(parts, " extends", &decl.extends)?;
+    put_names(parts, " implements", &decl.implements)?;
+    put_members(parts, &decl.members)?;
+    put(parts, Part::Text(")"))
 }
 
-fn parts_of_unit<'a>(alloc: Global, unit: &'a Unit) -> Parts<'a> {
-    let mut parts = Vec::new(alloc);
+fn put_members<'a>(parts: &mut Vec<Part<'a>>, members: &'a [Member]) -> Result<(), AllocError> {
+    for member in members {
+        put(parts, Part::Member(member))?;
+    }
+    Ok(())
+}
+
+fn put_imports<'a>(parts: &mut Vec<Part<'a>>, imports: &'a [Import]) -> Result<(), AllocError> {
+    for import in imports {
+        let end = if import.all { " *)" } else { ")" };
+        let name = Part::Name(&import.name);
+        put_all(parts, &[Part::Text(" (import"), name, Part::Text(end)])?;
+    }
+    Ok(())
+}
+
+fn put_unit<'a>(parts: &mut Vec<Part<'a>>, unit: &'a Unit) -> Result<(), AllocError> {
     if let Some(name) = &unit.package {
-        parts.push(Part::Text(" (package"))?;
-        parts.push(Part::Name(name))?;
-        parts.push(Part::Text(")"))?;
+        let word = Part::Text(" (package");
+        put_all(parts, &[word, Part::Name(name), Part::Text(")")])?;
     }
-    for import in &unit.imports {
-        parts.push(Part::Text(" (import"))?;
-        parts.push(Part::Name(&import.name))?;
-        parts.push(Part::Text(if import.all { " *)" } else { ")" }))?;
-    }
+    put_imports(parts, &unit.imports)?;
     for decl in &unit.types {
-        parts.push(Part::Decl(decl))?;
+        put(parts, Part::Decl(decl))?;
     }
-    Ok(parts)
+    Ok(())
 }
 
 fn write_ident(text: &mut String, names: &Names, ident: Ident) -> Result<(), AllocError> {
@@ -432,24 +482,61 @@ fn write_type(text: &mut String, names: &Names, ty: &TypeRef) -> Result<(), Allo
     Ok(())
 }
 
-/// Writes a part, or gives the parts that it has.
-fn write_part<'a>(alloc: Global, text: &mut String, names: &Names, part: Part<'a>) -> Parts<'a> {
+/// Writes a part, or puts the parts that it has.
+fn write_part<'a>(
+    text: &mut String,
+    names: &Names,
+    part: Part<'a>,
+    parts: &mut Vec<Part<'a>>,
+) -> Result<(), AllocError> {
     match part {
-        Part::Text(word) => text.push_str(word)?,
-        Part::Number(number) => write!(text, " {number}")?,
+        Part::Text(word) => text.push_str(word),
+        Part::Number(number) => write_number(text, number),
         Part::Ident(ident) => {
             text.push_str(" ")?;
-            write_ident(text, names, ident)?;
+            write_ident(text, names, ident)
         }
-        Part::Name(name) => write_name(text, names, name)?,
-        Part::Type(ty) => write_type(text, names, ty)?,
-        Part::Expr(expr) => return parts_of_expr(alloc, expr),
-        Part::Init(init) => return parts_of_init(alloc, init),
-        Part::Stmt(stmt) => return parts_of_stmt(alloc, stmt),
-        Part::Member(member) => return parts_of_member(alloc, member),
-        Part::Decl(decl) => return parts_of_decl(alloc, decl),
+        Part::Name(name) => write_name(text, names, name),
+        Part::Type(ty) => write_type(text, names, ty),
+        Part::Expr(expr) => put_expr(parts, expr),
+        Part::Init(init) => put_init(parts, init),
+        Part::Stmt(stmt) => put_stmt(parts, stmt),
+        Part::Member(member) => put_member(parts, member),
+        Part::Decl(decl) => put_decl(parts, decl),
     }
-    Ok(Vec::new(alloc))
+}
+
+fn write_number(text: &mut String, number: u8) -> Result<(), AllocError> {
+    write!(text, " {number}")?;
+    Ok(())
+}
+
+/// Moves parts behind those that are left, the last of them first.
+fn turn<'a>(parts: &mut Vec<Part<'a>>, left: &mut Vec<Part<'a>>) -> Result<(), AllocError> {
+    for _each in 0..parts.len() {
+        if let Some(part) = parts.pop() {
+            put(left, part)?;
+        }
+    }
+    Ok(())
+}
+
+/// Writes parts with all that they have, up to more of them than any test has. What is left to write stands in `left`,
+/// the next part last.
+fn write_parts<'a>(
+    text: &mut String,
+    names: &Names,
+    parts: &mut Vec<Part<'a>>,
+    left: &mut Vec<Part<'a>>,
+) -> Result<(), AllocError> {
+    for _part in 0..100_000u32 {
+        turn(parts, left)?;
+        match left.pop() {
+            Some(next) => write_part(text, names, next, parts)?,
+            None => return Ok(()),
+        }
+    }
+    Ok(())
 }
 
 /// A file, of fewer parts than any test has.
@@ -460,17 +547,7 @@ pub(crate) fn write_unit(
     unit: &Unit,
 ) -> Result<(), AllocError> {
     let mut left = Vec::new(alloc);
-    let mut parts = parts_of_unit(alloc, unit)?;
-    for _part in 0..100_000u32 {
-        for _each in 0..parts.len() {
-            if let Some(part) = parts.pop() {
-                left.push(part)?;
-            }
-        }
-        let Some(next) = left.pop() else {
-            return Ok(());
-        };
-        parts = write_part(alloc, text, names, next)?;
-    }
-    Ok(())
+    let mut parts = Vec::new(alloc);
+    put_unit(&mut parts, unit)?;
+    write_parts(text, names, &mut parts, &mut left)
 }

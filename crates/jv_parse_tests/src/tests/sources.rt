@@ -1,32 +1,48 @@
 //! Sources with their trees, written by hand from `docs/JAVA-PROFILE.md`. An operator is the number of its mark, a modifier
 //! that of its keyword. `no` stands for a source that is refused.
 
-ghost use Rattle.std.specs.Prelude.{◌≤◌, length};
+ghost use Rattle.std.specs.Prelude.{◌≤◌, All, length};
+ghost use Rattle.jv_lex.specs.Source.{IsPlaced};
 
 use crate::tests::shown::write_unit;
-use jv_lex::lex;
+use jv_lex::{Token, lex};
 use jv_parse::{ParseFault, parse};
 use jv_tree::Names;
-use std::alloc::Global;
+use std::alloc::{AllocError, Global};
 use std::fmt::Write;
 use std::process::Abort;
 use std::test::Fail;
+
+/// A fault.
+fn write_fault(text: &mut String, fault: ParseFault) -> Result<(), Fail> {
+    match fault {
+        ParseFault::TooDeep { token } => write!(text, "deep {token}")?,
+        ParseFault::NotInGrammar { .. } => text.push_str("no")?,
+        ParseFault::OutOfMemory => text.push_str("memory")?,
+    }
+    Ok(())
+}
+
+/// The tree of tokens, or their fault.
+fn write_tree(alloc: Global, text: &mut String, source: &str, tokens: &[Token]) -> Result<(), Fail>
+    requires placed { All (IsPlaced source.now) tokens.now }
+    requires few { length tokens.now ≤ 1048576 }
+{
+    let mut names = Names::new(alloc);
+    match parse(alloc, source, tokens, &mut names) {
+        Ok(unit) => Ok(write_unit(alloc, text, &names, &unit)?),
+        Err(fault) => write_fault(text, fault),
+    }
+}
 
 /// The tree of a source, or its fault.
 fn shown(alloc: Global, source: &str) -> Result<String, Fail>
     requires { length source.now ≤ 1048576 }
 {
-    let mut text = String::new(alloc);
-    let mut names = Names::new(alloc);
     let tokens = lex(alloc, source.as_bytes())?;
-    if tokens.len() > 1048576 {
-        return Ok(text);
-    }
-    match parse(alloc, source, &tokens, &mut names) {
-        Ok(unit) => write_unit(alloc, &mut text, &names, &unit)?,
-        Err(ParseFault::TooDeep { token }) => write!(text, "deep {token}")?,
-        Err(ParseFault::NotInGrammar { .. }) => text.push_str("no")?,
-        Err(ParseFault::OutOfMemory) => text.push_str("memory")?,
+    let mut text = String::new(alloc);
+    if tokens.len() <= 1048576 {
+        write_tree(alloc, &mut text, source, &tokens)?;
     }
     Ok(text)
 }
@@ -282,54 +298,86 @@ const EXPRESSIONS: [(&str, &str); 62] = [
     ("(int[]) -a", "no"),
 ];
 
-/// Each source between `front` and `back`, with its tree between those of `before` and `behind`.
+/// The tree of a source between `front` and `back`, or its fault.
+fn found_between(
+    rt: &impl Abort,
+    alloc: Global,
+    front: &str,
+    source: &str,
+    back: &str,
+) -> Result<String, Fail> {
+    let whole = format!(in alloc; "{front}{source}{back}")?;
+    assert!(rt; whole.len() < 1000);
+    shown(alloc, &whole)
+}
+
+/// A tree between those of `before` and `behind`, or `no` alone.
+fn wanted_between(
+    alloc: Global,
+    before: &str,
+    tree: &str,
+    behind: &str,
+) -> Result<String, AllocError> {
+    if tree == "no" {
+        String::from_str(alloc, "no")
+    } else {
+        format!(in alloc; "{before}{tree}{behind}")
+    }
+}
+
+/// A source between `front` and `back`, with its tree between those of `before` and `behind`.
+fn compare_one(
+    rt: &impl Abort,
+    alloc: Global,
+    around: [&str; 4],
+    source: &str,
+    tree: &str,
+) -> Result<(), Fail> {
+    let [front, back, before, behind] = around;
+    let wanted = wanted_between(alloc, before, tree, behind)?;
+    let found = found_between(rt, alloc, front, source, back)?;
+    assert_eq!(rt; found.as_str(), wanted.as_str(), "{source}");
+    Ok(())
+}
+
+/// Each source of a table, between texts as above.
 fn compare(
     rt: &impl Abort,
     alloc: Global,
     around: [&str; 4],
     table: &[(&str, &str)],
 ) -> Result<(), Fail> {
-    let [front, back, before, behind] = around;
     for (source, tree) in table {
-        let whole = format!(in alloc; "{front}{source}{back}")?;
-        assert!(rt; whole.len() < 1000);
-        let found = shown(alloc, &whole)?;
-        let wanted = if *tree == "no" {
-            String::from_str(alloc, "no")?
-        } else {
-            format!(in alloc; "{before}{tree}{behind}")?
-        };
-        assert_eq!(rt; found.as_str(), wanted.as_str(), "{source}");
+        compare_one(rt, alloc, around, source, tree)?;
     }
     Ok(())
 }
 
 #[test]
-fn tables_of_sources(rt: HostRuntime) -> Result<(), Fail> {
-    for (around, table) in [
-        (["", "", "", ""], FILES.as_slice()),
-        (
-            [
-                "class A { void f() { ",
-                " } }",
-                " (class A (method void f {",
-                " }))",
-            ],
-            STATEMENTS.as_slice(),
-        ),
-        (
-            [
-                "class A { int a = ",
-                "; }",
-                " (class A (field int a =",
-                "))",
-            ],
-            EXPRESSIONS.as_slice(),
-        ),
-    ] {
-        compare(&rt, rt.alloc(), around, table)?;
-    }
-    Ok(())
+fn files_have_their_trees(rt: HostRuntime) -> Result<(), Fail> {
+    compare(&rt, rt.alloc(), ["", "", "", ""], &FILES)
+}
+
+#[test]
+fn statements_have_their_trees(rt: HostRuntime) -> Result<(), Fail> {
+    let around = [
+        "class A { void f() { ",
+        " } }",
+        " (class A (method void f {",
+        " }))",
+    ];
+    compare(&rt, rt.alloc(), around, &STATEMENTS)
+}
+
+#[test]
+fn expressions_have_their_trees(rt: HostRuntime) -> Result<(), Fail> {
+    let around = [
+        "class A { int a = ",
+        "; }",
+        " (class A (field int a =",
+        "))",
+    ];
+    compare(&rt, rt.alloc(), around, &EXPRESSIONS)
 }
 
 /// The files of a small project.
@@ -371,7 +419,7 @@ public final class Text {
 
 #[test]
 fn files_of_a_project(rt: HostRuntime) -> Result<(), Fail> {
-    for source in PROJECT {
+    for source in &PROJECT {
         assert!(rt; source.len() < 1000);
         let found = shown(rt.alloc(), source)?;
         assert!(rt; found.starts_with(" (package"), "{source}");
