@@ -98,16 +98,26 @@ fn type_of(
     ))
 }
 
+/// `class B { B() {} }`
+fn inner_class(alloc: Global) -> Result<Member, Fail> {
+    let members = vec![in alloc; constructor_of(alloc, B)?]?;
+    Ok(nested(type_of(alloc, B, false, members)?))
+}
+
+/// `int x; class B { B() {} } int x; int x(); int m();`
+fn put_members_of_a(alloc: Global, members: &mut Vec<Member>) -> Result<(), Fail> {
+    members.push(field_of(alloc, X)?)?;
+    members.push(inner_class(alloc)?)?;
+    members.push(field_of(alloc, X)?)?;
+    members.push(method_of(alloc, X)?)?;
+    members.push(method_of(alloc, M)?)?;
+    Ok(())
+}
+
 /// `class A { int x; class B { B() {} } int x; int x(); int m(); }`
 fn outer_class(alloc: Global) -> Result<TypeDecl, Fail> {
-    let inner = type_of(alloc, B, false, vec![in alloc; constructor_of(alloc, B)?]?)?;
-    let members = vec![in alloc;
-        field_of(alloc, X)?,
-        nested(inner),
-        field_of(alloc, X)?,
-        method_of(alloc, X)?,
-        method_of(alloc, M)?,
-    ]?;
+    let mut members = Vec::new(alloc);
+    put_members_of_a(alloc, &mut members)?;
     type_of(alloc, A, false, members)
 }
 
@@ -126,34 +136,65 @@ fn file_in(alloc: Global, package: &[u32], types: Vec<TypeDecl>) -> Result<Unit,
     Ok(unit(Some(Name { ids }), vec![in alloc]?, types))
 }
 
+/// `package java.lang; class Object { int m(); }`
+fn object_file(alloc: Global) -> Result<Unit, Fail> {
+    let members = vec![in alloc; method_of(alloc, M)?]?;
+    let types = vec![in alloc; type_of(alloc, OBJECT, false, members)?]?;
+    file_in(alloc, &[JAVA, LANG], types)
+}
+
+/// `package java.lang; class String {}`
+fn string_file(alloc: Global) -> Result<Unit, Fail> {
+    let types = vec![in alloc; type_of(alloc, STRING, false, Vec::new(alloc))?]?;
+    file_in(alloc, &[JAVA, LANG], types)
+}
+
+/// `package p; class A { int x; class B { B() {} } int x; int x(); int m(); } class A {}`
+fn file_p(alloc: Global) -> Result<Unit, Fail> {
+    let mut types = vec![in alloc; outer_class(alloc)?]?;
+    types.push(type_of(alloc, A, false, Vec::new(alloc))?)?;
+    file_in(alloc, &[P], types)
+}
+
+/// `interface I { int x; class B {} }`
+fn unnamed_file(alloc: Global) -> Result<Unit, Fail> {
+    let types = vec![in alloc; outer_interface(alloc)?]?;
+    Ok(unit(None, Vec::new(alloc), types))
+}
+
+fn put_small_files(alloc: Global, files: &mut Vec<Unit>) -> Result<(), Fail> {
+    files.push(object_file(alloc)?)?;
+    files.push(string_file(alloc)?)?;
+    files.push(file_p(alloc)?)?;
+    files.push(unnamed_file(alloc)?)?;
+    Ok(())
+}
+
 /// Four files: `package java.lang; class Object { int m(); }`, `package java.lang; class String {}`,
 /// `package p; class A { int x; class B { B() {} } int x; int x(); int m(); } class A {}` and
 /// `interface I { int x; class B {} }`.
 pub fn small_files(alloc: Global) -> Result<Vec<Unit>, Fail> {
-    let object = type_of(alloc, OBJECT, false, vec![in alloc; method_of(alloc, M)?]?)?;
-    let string = type_of(alloc, STRING, false, vec![in alloc]?)?;
-    let again = type_of(alloc, A, false, vec![in alloc]?)?;
-    let classes = vec![in alloc; outer_class(alloc)?, again]?;
-    let interfaces = vec![in alloc; outer_interface(alloc)?]?;
-    let files = vec![in alloc;
-        file_in(alloc, &[JAVA, LANG], vec![in alloc; object]?)?,
-        file_in(alloc, &[JAVA, LANG], vec![in alloc; string]?)?,
-        file_in(alloc, &[P], classes)?,
-        unit(None, vec![in alloc]?, interfaces),
-    ]?;
+    let mut files = Vec::new(alloc);
+    put_small_files(alloc, &mut files)?;
     Ok(files)
 }
 
+/// The names of packages.
+const PACKAGES: [&[u32]; 6] = [
+    &[P, X, M],
+    &[P_DOLLAR, X],
+    &[P, A],
+    &[P],
+    &[P_DOLLAR],
+    &[P, X, M],
+];
+
 /// Files without types, of the packages `p.x.m`, `p$.x`, `p.A`, `p`, `p$` and again `p.x.m`.
 pub fn files_of_packages(alloc: Global) -> Result<Vec<Unit>, Fail> {
-    let files = vec![in alloc;
-        file_in(alloc, &[P, X, M], vec![in alloc]?)?,
-        file_in(alloc, &[P_DOLLAR, X], vec![in alloc]?)?,
-        file_in(alloc, &[P, A], vec![in alloc]?)?,
-        file_in(alloc, &[P], vec![in alloc]?)?,
-        file_in(alloc, &[P_DOLLAR], vec![in alloc]?)?,
-        file_in(alloc, &[P, X, M], vec![in alloc]?)?,
-    ]?;
+    let mut files = Vec::new(alloc);
+    for package in PACKAGES {
+        files.push(file_in(alloc, package, Vec::new(alloc))?)?;
+    }
     Ok(files)
 }
 

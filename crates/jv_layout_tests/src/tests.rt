@@ -6,8 +6,8 @@
 
 use crate::small_folder::{files_of_packages, scope_at, small_files, small_names};
 use jv_instance::{JavaDatum, Ty, TypeBase, labels};
-use jv_layout::{Layout, LayoutFault, Place, is_folder, layout};
-use jv_tree::{NameId, Unit};
+use jv_layout::{Declarations, Layout, LayoutFault, Place, is_folder, layout};
+use jv_tree::{NameId, Names, Unit};
 use sg_base::Scope;
 use sg_state::Opening;
 use std::alloc::Global;
@@ -25,10 +25,19 @@ fn small_layout(alloc: Global) -> Result<Layout, Fail> {
 
 fn layout_of(alloc: Global, files: Vec<Unit>) -> Result<Layout, Fail> {
     let names = small_names(alloc)?;
-    if !is_folder(&files) {
+    layout_by(alloc, &names, &files)
+}
+
+fn layout_by(alloc: Global, names: &Names, files: &[Unit]) -> Result<Layout, Fail> {
+    if !is_folder(files) {
         return Err(Fail::new("too many names"));
     }
-    Ok(layout(alloc, &names, &files)?)
+    Ok(layout(alloc, names, files)?)
+}
+
+/// The layout of the files of packages.
+fn packages_layout(alloc: Global) -> Result<Layout, Fail> {
+    layout_of(alloc, files_of_packages(alloc)?)
 }
 
 /// The serials of scopes.
@@ -56,13 +65,31 @@ const PLACES: [(u32, Place); 13] = [
     (40, Place::Outside),
 ];
 
+/// The first of the scopes that are another place.
+fn wrong_place(layout: &Layout) -> Option<u32> {
+    for (serial, wanted) in PLACES {
+        if layout.place(scope_at(serial)) != wanted {
+            return Some(serial);
+        }
+    }
+    None
+}
+
 #[test]
 fn scopes_stand_in_order(rt: HostRuntime) -> Result<(), Fail> {
-    let layout = small_layout(rt.alloc())?;
-    for (serial, wanted) in PLACES {
-        assert_eq!(rt; layout.place(scope_at(serial)), wanted, "{serial}");
-    }
-    let types = serials(rt.alloc(), layout.types())?;
+    let wrong = wrong_place(&small_layout(rt.alloc())?);
+    assert_eq!(rt; wrong, None);
+    Ok(())
+}
+
+fn types_told(alloc: Global) -> Result<String, Fail> {
+    let layout = small_layout(alloc)?;
+    serials(alloc, layout.types())
+}
+
+#[test]
+fn types_stand_in_order(rt: HostRuntime) -> Result<(), Fail> {
+    let types = types_told(rt.alloc())?;
     assert_eq!(rt; types.as_str(), "9 10 11 12 13 14 15 ");
     Ok(())
 }
@@ -81,13 +108,25 @@ const MEMBERS: [(u32, &str); 10] = [
     (16, ""),
 ];
 
+fn has_members(alloc: Global, layout: &Layout, serial: u32, wanted: &str) -> Result<bool, Fail> {
+    let found = serials(alloc, layout.members(scope_at(serial)))?;
+    Ok(found.as_str() == wanted)
+}
+
+/// The first of the scopes that have other members.
+fn wrong_members(alloc: Global, layout: &Layout) -> Result<Option<u32>, Fail> {
+    for (serial, wanted) in MEMBERS {
+        if !has_members(alloc, layout, serial, wanted)? {
+            return Ok(Some(serial));
+        }
+    }
+    Ok(None)
+}
+
 #[test]
 fn types_have_their_members(rt: HostRuntime) -> Result<(), Fail> {
-    let layout = small_layout(rt.alloc())?;
-    for (serial, wanted) in MEMBERS {
-        let found = serials(rt.alloc(), layout.members(scope_at(serial)))?;
-        assert_eq!(rt; found.as_str(), wanted, "{serial}");
-    }
+    let wrong = wrong_members(rt.alloc(), &small_layout(rt.alloc())?)?;
+    assert_eq!(rt; wrong, None);
     Ok(())
 }
 
@@ -110,14 +149,30 @@ const TITLES: [(u32, &str); 16] = [
     (40, ""),
 ];
 
+fn has_title(alloc: Global, layout: &Layout, serial: u32, wanted: &str) -> Result<bool, Fail> {
+    let names = small_names(alloc)?;
+    let found = layout.title(alloc, &names, scope_at(serial))?;
+    Ok(found.as_str() == wanted)
+}
+
+/// The first of the scopes that have another title.
+fn wrong_title(
+    alloc: Global,
+    layout: &Layout,
+    titles: &[(u32, &str)],
+) -> Result<Option<u32>, Fail> {
+    for (serial, wanted) in titles {
+        if !has_title(alloc, layout, *serial, *wanted)? {
+            return Ok(Some(*serial));
+        }
+    }
+    Ok(None)
+}
+
 #[test]
 fn scopes_have_titles(rt: HostRuntime) -> Result<(), Fail> {
-    let layout = small_layout(rt.alloc())?;
-    let names = small_names(rt.alloc())?;
-    for (serial, wanted) in TITLES {
-        let found = layout.title(rt.alloc(), &names, scope_at(serial))?;
-        assert_eq!(rt; found.as_str(), wanted, "{serial}");
-    }
+    let wrong = wrong_title(rt.alloc(), &small_layout(rt.alloc())?, &TITLES)?;
+    assert_eq!(rt; wrong, None);
     Ok(())
 }
 
@@ -130,15 +185,33 @@ const CLASS_TEXTS: [(u32, u8, &str); 5] = [
     (40, 1, "[]"),
 ];
 
+fn has_text(alloc: Global, layout: &Layout, ty: Ty, wanted: &str) -> Result<bool, Fail> {
+    let names = small_names(alloc)?;
+    let found = layout.type_text(alloc, &names, ty)?;
+    Ok(found.as_str() == wanted)
+}
+
+fn class_type(serial: u32, dims: u8) -> Ty {
+    Ty {
+        base: TypeBase::Class(scope_at(serial)),
+        dims,
+    }
+}
+
+/// The first of the classes that have another text.
+fn wrong_class(alloc: Global, layout: &Layout) -> Result<Option<u32>, Fail> {
+    for (serial, dims, wanted) in CLASS_TEXTS {
+        if !has_text(alloc, layout, class_type(serial, dims), wanted)? {
+            return Ok(Some(serial));
+        }
+    }
+    Ok(None)
+}
+
 #[test]
 fn classes_have_texts(rt: HostRuntime) -> Result<(), Fail> {
-    let layout = small_layout(rt.alloc())?;
-    let names = small_names(rt.alloc())?;
-    for (serial, dims, wanted) in CLASS_TEXTS {
-        let base = TypeBase::Class(scope_at(serial));
-        let found = layout.type_text(rt.alloc(), &names, Ty { base, dims })?;
-        assert_eq!(rt; found.as_str(), wanted, "{serial}");
-    }
+    let wrong = wrong_class(rt.alloc(), &small_layout(rt.alloc())?)?;
+    assert_eq!(rt; wrong, None);
     Ok(())
 }
 
@@ -154,14 +227,20 @@ const PLAIN_TEXTS: [(TypeBase, u8, &str); 8] = [
     (TypeBase::Bad, 2, "?"),
 ];
 
+/// The first of the texts that are not those of their types.
+fn wrong_plain_text(alloc: Global, layout: &Layout) -> Result<Option<&'static str>, Fail> {
+    for (base, dims, wanted) in PLAIN_TEXTS {
+        if !has_text(alloc, layout, Ty { base, dims }, wanted)? {
+            return Ok(Some(wanted));
+        }
+    }
+    Ok(None)
+}
+
 #[test]
 fn plain_types_have_texts(rt: HostRuntime) -> Result<(), Fail> {
-    let layout = small_layout(rt.alloc())?;
-    let names = small_names(rt.alloc())?;
-    for (base, dims, wanted) in PLAIN_TEXTS {
-        let found = layout.type_text(rt.alloc(), &names, Ty { base, dims })?;
-        assert_eq!(rt; found.as_str(), wanted);
-    }
+    let wrong = wrong_plain_text(rt.alloc(), &small_layout(rt.alloc())?)?;
+    assert_eq!(rt; wrong, None);
     Ok(())
 }
 
@@ -182,12 +261,31 @@ const SIMPLE_NAMES: [(u32, Option<u32>); 13] = [
     (40, None),
 ];
 
-#[test]
-fn scopes_have_simple_names(rt: HostRuntime) -> Result<(), Fail> {
-    let layout = small_layout(rt.alloc())?;
+/// The first of the scopes that have another simple name.
+fn wrong_simple_name(layout: &Layout) -> Option<u32> {
     for (serial, wanted) in SIMPLE_NAMES {
         let found = layout.simple_name(scope_at(serial));
-        assert_eq!(rt; found.map(|name| name.0), wanted, "{serial}");
+        if found.map(|name| name.0) != wanted {
+            return Some(serial);
+        }
+    }
+    None
+}
+
+#[test]
+fn scopes_have_simple_names(rt: HostRuntime) -> Result<(), Fail> {
+    let wrong = wrong_simple_name(&small_layout(rt.alloc())?);
+    assert_eq!(rt; wrong, None);
+    Ok(())
+}
+
+/// The serials of duplicates.
+fn put_duplicates(alloc: Global, layout: &Layout, text: &mut String) -> Result<(), Fail> {
+    let declarations = layout.declarations(alloc)?;
+    for serial in 0..41 {
+        if declarations.is_duplicate(layout, scope_at(serial)) {
+            write!(text, "{} ", serial)?;
+        }
     }
     Ok(())
 }
@@ -195,13 +293,8 @@ fn scopes_have_simple_names(rt: HostRuntime) -> Result<(), Fail> {
 #[test]
 fn a_second_class_and_a_second_field_are_duplicates(rt: HostRuntime) -> Result<(), Fail> {
     let layout = small_layout(rt.alloc())?;
-    let declarations = layout.declarations(rt.alloc())?;
     let mut text = String::new(rt.alloc());
-    for serial in 0..41 {
-        if declarations.is_duplicate(&layout, scope_at(serial)) {
-            write!(text, "{} ", serial)?;
-        }
-    }
+    put_duplicates(rt.alloc(), &layout, &mut text)?;
     assert_eq!(rt; text.as_str(), "13 22 ");
     Ok(())
 }
@@ -218,13 +311,25 @@ const SUBPACKAGES: [(u32, u32, bool); 8] = [
     (40, 0, false),
 ];
 
+fn small_declarations(alloc: Global) -> Result<Declarations, Fail> {
+    let layout = small_layout(alloc)?;
+    Ok(layout.declarations(alloc)?)
+}
+
+/// The first of the scopes and names where it is otherwise.
+fn wrong_subpackage(declarations: &Declarations) -> Option<(u32, u32)> {
+    for (serial, name, wanted) in SUBPACKAGES {
+        if declarations.has_subpackage(scope_at(serial), NameId(name)) != wanted {
+            return Some((serial, name));
+        }
+    }
+    None
+}
+
 #[test]
 fn packages_have_their_subpackages(rt: HostRuntime) -> Result<(), Fail> {
-    let declarations = small_layout(rt.alloc())?.declarations(rt.alloc())?;
-    for (serial, name, wanted) in SUBPACKAGES {
-        let found = declarations.has_subpackage(scope_at(serial), NameId(name));
-        assert_eq!(rt; found, wanted, "{serial} {name}");
-    }
+    let wrong = wrong_subpackage(&small_declarations(rt.alloc())?);
+    assert_eq!(rt; wrong, None);
     Ok(())
 }
 
@@ -257,14 +362,36 @@ const EDGES: [(u8, &str); 11] = [
     (labels::SIMP, ""),
 ];
 
+fn has_edges(
+    alloc: Global,
+    opening: &Opening<JavaDatum>,
+    label: u8,
+    wanted: &str,
+) -> Result<bool, Fail> {
+    let found = edges_by(alloc, opening, label)?;
+    Ok(found.as_str() == wanted)
+}
+
+fn small_opening(alloc: Global) -> Result<Opening<JavaDatum>, Fail> {
+    let layout = small_layout(alloc)?;
+    Ok(layout.opening(alloc)?)
+}
+
+/// The first of the labels that have other edges.
+fn wrong_edges(alloc: Global, opening: &Opening<JavaDatum>) -> Result<Option<u8>, Fail> {
+    for (label, wanted) in EDGES {
+        if !has_edges(alloc, opening, label, wanted)? {
+            return Ok(Some(label));
+        }
+    }
+    Ok(None)
+}
+
 #[test]
 fn an_opening_has_its_edges(rt: HostRuntime) -> Result<(), Fail> {
-    let opening = small_layout(rt.alloc())?.opening(rt.alloc())?;
+    let opening = small_opening(rt.alloc())?;
     assert_eq!(rt; opening.scopes.len(), 40);
-    for (label, wanted) in EDGES {
-        let found = edges_by(rt.alloc(), &opening, label)?;
-        assert_eq!(rt; found.as_str(), wanted, "{label}");
-    }
+    assert_eq!(rt; wrong_edges(rt.alloc(), &opening)?, None);
     Ok(())
 }
 
@@ -291,15 +418,23 @@ const ROWS: &str =
 
 const DATA: &str = "4:28 4:29 5:30 6:31 6:32 7:33 6:34 6:35 6:36 8:37 9:38 10:39 ";
 
+fn has_rows(alloc: Global, opening: &Opening<JavaDatum>) -> Result<bool, Fail> {
+    let rows = rows_held(alloc, opening)?;
+    Ok(rows.as_str() == ROWS)
+}
+
+fn has_data(alloc: Global, opening: &Opening<JavaDatum>) -> Result<bool, Fail> {
+    let data = data_held(alloc, opening)?;
+    Ok(data.as_str() == DATA)
+}
+
 #[test]
 fn units_hold_rows_and_data(rt: HostRuntime) -> Result<(), Fail> {
-    let opening = small_layout(rt.alloc())?.opening(rt.alloc())?;
+    let opening = small_opening(rt.alloc())?;
     assert_eq!(rt; opening.units, 11);
     assert_eq!(rt; opening.given.len(), 22);
-    let rows = rows_held(rt.alloc(), &opening)?;
-    assert_eq!(rt; rows.as_str(), ROWS);
-    let data = data_held(rt.alloc(), &opening)?;
-    assert_eq!(rt; data.as_str(), DATA);
+    assert!(rt; has_rows(rt.alloc(), &opening)?);
+    assert!(rt; has_data(rt.alloc(), &opening)?);
     Ok(())
 }
 
@@ -315,16 +450,34 @@ const DOTTED_NAMES: [(u32, &str); 6] = [
 
 #[test]
 fn packages_stand_by_dotted_name(rt: HostRuntime) -> Result<(), Fail> {
-    let layout = layout_of(rt.alloc(), files_of_packages(rt.alloc())?)?;
-    let names = small_names(rt.alloc())?;
-    for (serial, wanted) in DOTTED_NAMES {
-        let found = layout.title(rt.alloc(), &names, scope_at(serial))?;
-        assert_eq!(rt; found.as_str(), wanted, "{serial}");
-    }
-    let opening = layout.opening(rt.alloc())?;
-    let enclosed = edges_by(rt.alloc(), &opening, labels::PKG)?;
-    assert_eq!(rt; enclosed.as_str(), "0-2 0-3 3-4 2-5 2-6 6-7 ");
-    let files = edges_by(rt.alloc(), &opening, labels::PKGOF)?;
-    assert_eq!(rt; files.as_str(), "8-7 9-4 10-5 11-2 12-3 13-7 ");
+    let wrong = wrong_title(rt.alloc(), &packages_layout(rt.alloc())?, &DOTTED_NAMES)?;
+    assert_eq!(rt; wrong, None);
+    Ok(())
+}
+
+fn packages_opening(alloc: Global) -> Result<Opening<JavaDatum>, Fail> {
+    let layout = packages_layout(alloc)?;
+    Ok(layout.opening(alloc)?)
+}
+
+#[test]
+fn packages_have_edges_in_their_order(rt: HostRuntime) -> Result<(), Fail> {
+    let opening = packages_opening(rt.alloc())?;
+    assert!(rt;
+        has_edges(
+            rt.alloc(),
+            &opening,
+            labels::PKG,
+            "0-2 0-3 3-4 2-5 2-6 6-7 "
+        )?
+    );
+    assert!(rt;
+        has_edges(
+            rt.alloc(),
+            &opening,
+            labels::PKGOF,
+            "8-7 9-4 10-5 11-2 12-3 13-7 "
+        )?
+    );
     Ok(())
 }

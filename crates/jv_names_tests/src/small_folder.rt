@@ -8,7 +8,7 @@
 //! the types 10 `Object`, 11 `String`, 12 `A`, 13 `A.M`, 14 `C` and 15 `B`, and from 16 on members: 18 is the constructor of
 //! `A`, 19 to 21 are its fields `x`, `y` and `z`, and 22 is its method `m`.
 
-ghost use Rattle.std.specs.Prelude.{◌≡◌, ◌+◌, ◌<◌, length, map, sum_by, IfOk};
+ghost use Rattle.std.specs.Prelude.{◌≡◌, ◌+◌, ◌<◌, [], length, map, sum_by, IfOk, OnOk};
 ghost use Rattle.jv_tree.specs.DeclTree.{MemberTrees, members, member_tree, member_trees, type_decl_tree, tree_of};
 ghost use Rattle.jv_layout.specs.Sizes.{IsFolder, decl_names, body_names, unit_names};
 
@@ -119,16 +119,22 @@ fn member_class(alloc: Global, words: &[u8], number: u32) -> Result<Member, Allo
 }
 
 /// `private int x; int y; protected int z; public int m(); protected class M {}`
+fn put_members_of_a(alloc: Global, members: &mut Vec<Member>) -> Result<(), AllocError>
+    ensures { members.old.items ≡ [] → OnOk result (body_names (member_trees members.new.items) ≡ 5) }
+{
+    members.push(field_of(alloc, &[32], X)?)?;
+    members.push(field_of(alloc, &[], Y)?)?;
+    members.push(field_of(alloc, &[33], Z)?)?;
+    members.push(method_of(alloc, &[34], M)?)?;
+    members.push(member_class(alloc, &[33], M)?)?;
+    Ok(())
+}
+
 fn members_of_a(alloc: Global) -> Result<Vec<Member>, AllocError>
     ensures { IfOk result (λ ms. body_names (member_trees ms.items) ≡ 5) }
 {
-    let members = vec![in alloc;
-        field_of(alloc, &[32], X)?,
-        field_of(alloc, &[], Y)?,
-        field_of(alloc, &[33], Z)?,
-        method_of(alloc, &[34], M)?,
-        member_class(alloc, &[33], M)?,
-    ]?;
+    let mut members = Vec::new(alloc);
+    put_members_of_a(alloc, &mut members)?;
     Ok(members)
 }
 

@@ -74,10 +74,9 @@ pub struct SmallFolder {
     pub oracle: Oracle,
 }
 
-/// The small folder.
-pub fn small_folder(alloc: Global) -> Result<SmallFolder, Fail> {
-    Ok(SmallFolder {
-        layout: small_layout(alloc)?,
-        oracle: all_replies(alloc)?,
-    })
+/// The small folder, as one value for a test to hold.
+pub fn small_folder(alloc: Global) -> Result<Box<SmallFolder>, Fail> {
+    let layout = small_layout(alloc)?;
+    let oracle = all_replies(alloc)?;
+    Ok(Box::new(alloc, SmallFolder { layout, oracle })?)
 }

@@ -7,6 +7,7 @@ use jv_names::kinds::{
 };
 use sg_base::{Label, Mark};
 use sg_expr::Expr;
+use sg_query::KindTable;
 use std::alloc::Global;
 use std::test::Fail;
 
@@ -47,15 +48,21 @@ const WORDS: [(u8, &[u8], bool); 23] = [
     (SUPERS, &[labels::TYPE], false),
 ];
 
+/// The kind of the first word where it is otherwise.
+fn wrong_word(alloc: Global, table: &KindTable) -> Result<Option<u8>, Fail> {
+    for (kind, word, wanted) in WORDS {
+        if kind >= table.len() || has_word(alloc, &table.kind(kind).expr, word)? != wanted {
+            return Ok(Some(kind));
+        }
+    }
+    Ok(None)
+}
+
 #[test]
 fn kinds_follow_their_words(rt: HostRuntime) -> Result<(), Fail> {
     let table = java_kinds(rt.alloc())?;
     assert_eq!(rt; table.len(), 10);
-    for (kind, word, wanted) in WORDS {
-        assert!(rt; kind < table.len());
-        let found = has_word(rt.alloc(), &table.kind(kind).expr, word)?;
-        assert_eq!(rt; found, wanted, "{kind}");
-    }
+    assert_eq!(rt; wrong_word(rt.alloc(), &table)?, None);
     Ok(())
 }
 
@@ -74,14 +81,29 @@ const ORDERS: [(u8, u8, u8, bool); 12] = [
     (SUPERS, labels::EXT, labels::EXT, false),
 ];
 
+/// Whether a label is before another one in the order of a kind, if they are all there.
+fn is_before(table: &KindTable, kind: u8, first: u8, second: u8) -> Option<bool> {
+    if kind < table.len() && first < 16 && second < 16 {
+        let order = &table.kind(kind).order;
+        Some(order.before(Mark::Of(Label::new(first)), Mark::Of(Label::new(second))))
+    } else {
+        None
+    }
+}
+
+/// The kind and the labels of the first order where it is otherwise.
+fn wrong_order(table: &KindTable) -> Option<(u8, u8, u8)> {
+    for (kind, first, second, wanted) in ORDERS {
+        if is_before(table, kind, first, second) != Some(wanted) {
+            return Some((kind, first, second));
+        }
+    }
+    None
+}
+
 #[test]
 fn kinds_order_their_labels(rt: HostRuntime) -> Result<(), Fail> {
-    let table = java_kinds(rt.alloc())?;
-    for (kind, first, second, wanted) in ORDERS {
-        assert!(rt; kind < table.len() && first < 16 && second < 16);
-        let order = &table.kind(kind).order;
-        let found = order.before(Mark::Of(Label::new(first)), Mark::Of(Label::new(second)));
-        assert_eq!(rt; found, wanted, "{kind}: {first} {second}");
-    }
+    let wrong = wrong_order(&java_kinds(rt.alloc())?);
+    assert_eq!(rt; wrong, None);
     Ok(())
 }
