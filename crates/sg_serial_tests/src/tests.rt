@@ -4,7 +4,7 @@ ghost use Rattle.std.specs.Prelude.{◌≡◌, ◌<◌, ◌+◌, ◌-◌, ◌∷
 ghost use Rattle.sg_serial.specs.Example.{crossed, own_scope, other_scope, worker_op, WorkerCanBeHanded, WorkerSteps, WorkerGivesOwed, WorkerStays};
 ghost use Rattle.sg_state.specs.Opening.{opened_of, opening_of};
 
-use sg_base::{Label, Scope};
+use sg_base::{Graph, Label, Scope};
 use sg_core::{Core, Phase};
 use sg_expr::Expr;
 use sg_numbers::{FIRST, Numbers, SECOND};
@@ -224,25 +224,57 @@ fn served(
     }
 }
 
+/// Whether a graph has both scopes, and of the edges with the label one alone, from the second scope to the first.
+fn has_one_edge(graph: &Graph<u64>, label: Label) -> bool {
+    graph.scopes() == [FIRST, SECOND].as_slice()
+        && graph.edges_of(FIRST, label).is_empty()
+        && graph.edges_of(SECOND, label) == [FIRST].as_slice()
+}
+
+/// Whether both units have ended with 7, and the second has added its edge.
+fn has_ended(core: &Core<Numbers, u64>) -> Result<bool, AllocError> {
+    if core.phase() != Phase::Ended || core.shown().is_some() {
+        return Ok(false);
+    }
+    let graph = core.graph()?;
+    Ok(
+        has_one_edge(&graph, Label::new(0))
+            && core.result(0) == Some(&7)
+            && core.result(1) == Some(&7),
+    )
+}
+
+/// Whether the first unit asks, the second adds an edge, and both end, in an order.
+fn ends_in(alloc: Global, order: &[u32]) -> Result<bool, AllocError> {
+    match served(alloc, true, false, order)? {
+        Some(core) => has_ended(&core),
+        None => Ok(false),
+    }
+}
+
 #[test]
 fn an_asker_ends_in_each_order(rt: HostRuntime) -> Result<(), Fail> {
-    let label = Label::new(0);
-    let orders: [&[u32]; 3] = [&[0, 1, 0], &[1, 0], &[]];
-    for order in orders {
-        match served(rt.alloc(), true, false, order)? {
-            Some(core) => {
-                assert_eq!(rt; core.phase(), Phase::Ended);
-                let graph = core.graph()?;
-                assert_eq!(rt; graph.scopes(), [FIRST, SECOND].as_slice());
-                assert_eq!(rt; graph.edges_of(FIRST, label), [].as_slice());
-                assert_eq!(rt; graph.edges_of(SECOND, label), [FIRST].as_slice());
-                assert!(rt; matches!((core.result(0), core.result(1)), (Some(7), Some(7))));
-                assert!(rt; core.shown().is_none());
-            }
-            None => assert!(rt; false),
-        }
-    }
+    assert!(rt; ends_in(rt.alloc(), &[0, 1, 0])?);
+    assert!(rt; ends_in(rt.alloc(), &[1, 0])?);
+    assert!(rt; ends_in(rt.alloc(), &[])?);
     Ok(())
+}
+
+/// Whether neither unit has a result, and these items are shown.
+fn is_stuck(core: &Core<Numbers, u64>, items: &[ShownItem]) -> bool {
+    let is_shown = match core.shown() {
+        Some(shown) => shown.items.as_slice() == items,
+        None => false,
+    };
+    is_shown && core.phase() == Phase::Stuck && core.result(0).is_none() && core.result(1).is_none()
+}
+
+/// Whether both units ask, and then wait for one another as these items say.
+fn get_stuck(alloc: Global, items: &[ShownItem]) -> Result<bool, AllocError> {
+    match served(alloc, true, true, &[1, 1, 0])? {
+        Some(core) => Ok(is_stuck(&core, items)),
+        None => Ok(false),
+    }
 }
 
 #[test]
@@ -260,16 +292,6 @@ fn askers_of_one_another_are_stuck(rt: HostRuntime) -> Result<(), Fail> {
             holder: 0,
         },
     ];
-    match served(rt.alloc(), true, true, &[1, 1, 0])? {
-        Some(core) => {
-            assert_eq!(rt; core.phase(), Phase::Stuck);
-            match core.shown() {
-                Some(shown) => assert_eq!(rt; shown.items.as_slice(), stuck.as_slice()),
-                None => assert!(rt; false),
-            }
-            assert!(rt; core.result(0).is_none() && core.result(1).is_none());
-        }
-        None => assert!(rt; false),
-    }
+    assert!(rt; get_stuck(rt.alloc(), &stuck)?);
     Ok(())
 }
