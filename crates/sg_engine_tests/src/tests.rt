@@ -16,7 +16,7 @@ use sg_engine::{Progress, Search};
 use sg_expr::Expr;
 use sg_numbers::{Numbers, scope};
 use sg_order::Order;
-use sg_query::{Answer, Kind, KindTable, Query};
+use sg_query::{Answer, FoundPaths, Kind, KindTable, Query};
 use sg_state::laws::writes_extend;
 use sg_state::{Held, Need, Opening};
 use std::alloc::{AllocError, Global};
@@ -404,20 +404,29 @@ fn closed_rows_are_explored_in_steps(rt: HostRuntime) -> Result<(), Fail> {
     Ok(())
 }
 
-#[test]
-fn a_search_goes_on_where_it_was_blocked(rt: HostRuntime) -> Result<(), Fail> {
-    let alloc = rt.alloc();
+/// Either of two labels.
+fn either(alloc: Global, a: Label, b: Label) -> Result<Expr, AllocError> {
+    Ok(Expr::Alt(
+        Box::new(alloc, Expr::One(a))?,
+        Box::new(alloc, Expr::One(b))?,
+    ))
+}
+
+/// What a search does that is blocked by a row, behind 63 targets of another one, until the row gets a target.
+fn seen_of_blocked(alloc: Global) -> Result<Option<Seen>, Fail> {
     let (a, b, last) = (Label::new(0), Label::new(1), scope(100));
     let mut o = star(alloc, 63)?;
     o.scopes.push(last)?;
     o.given.push((last, 100))?;
     o.row_holds.push((0, scope(0), b))?;
-    let expr = Expr::Alt(
-        Box::new(alloc, Expr::One(a))?,
-        Box::new(alloc, Expr::One(b))?,
-    );
+    let both = either(alloc, a, b)?;
     let change = Change::Linked(scope(0), b, last);
-    let Some(seen) = run(alloc, o, scope(0), expr, &[Need::Row(scope(0), b)], change)? else {
+    run(alloc, o, scope(0), both, &[Need::Row(scope(0), b)], change)
+}
+
+#[test]
+fn a_search_goes_on_where_it_was_blocked(rt: HostRuntime) -> Result<(), Fail> {
+    let Some(seen) = seen_of_blocked(rt.alloc())? else {
         return Err("not sound".into());
     };
     assert!(rt; seen.needed && seen.progress == Progress::Blocked);
@@ -532,25 +541,32 @@ fn answer_of(
     }
 }
 
-#[test]
-fn a_key_in_a_long_row_is_found_at_once(rt: HostRuntime) -> Result<(), Fail> {
+/// Whether these are one path, of one step from the first scope to scope 42, to the datum 41.
+fn has_one_step(alloc: Global, found: &FoundPaths<u64>) -> Result<bool, AllocError> {
+    if found.len() != 1 {
+        return Ok(false);
+    }
+    let only = found.at(0);
+    let path = only.path.path(alloc)?;
     let step = Step {
         label: Label::new(0),
         to: scope(42),
     };
-    let only = Expr::One(Label::new(0));
-    let Some((0, Answer::Paths(found))) = answer_of(rt.alloc(), star(rt.alloc(), 70)?, only, 41)?
-    else {
-        return Err("not found at once".into());
-    };
-    if found.len() != 1 {
-        return Err("not one path".into());
+    Ok(*only.datum == 41 && path.start() == scope(0) && path.steps() == [step].as_slice())
+}
+
+/// Whether one advance of a search finds the datum 41 behind a closed row with 70 targets.
+fn is_found_at_once(alloc: Global) -> Result<bool, Fail> {
+    let o = star(alloc, 70)?;
+    match answer_of(alloc, o, Expr::One(Label::new(0)), 41)? {
+        Some((0, Answer::Paths(found))) => Ok(has_one_step(alloc, &found)?),
+        _ => Ok(false),
     }
-    let only = found.at(0);
-    let path = only.path.path(rt.alloc())?;
-    assert_eq!(rt; path.start(), scope(0));
-    assert_eq!(rt; path.steps(), [step].as_slice());
-    assert_eq!(rt; *only.datum, 41);
+}
+
+#[test]
+fn a_key_in_a_long_row_is_found_at_once(rt: HostRuntime) -> Result<(), Fail> {
+    assert!(rt; is_found_at_once(rt.alloc())?);
     Ok(())
 }
 
@@ -571,30 +587,39 @@ fn branched(alloc: Global) -> Result<Opening<u64>, AllocError> {
     Ok(o)
 }
 
+/// Whether a path has so many steps from the first scope, the last of them from one scope to another, and its datum is 7.
+fn is_branch(found: &FoundPaths<u64>, place: usize, len: usize, last: (u32, u32)) -> bool {
+    if place >= found.len() {
+        return false;
+    }
+    let branch = found.at(place);
+    match branch.path.split_last() {
+        Some((before, step)) => {
+            *branch.datum == 7
+                && branch.path.start() == scope(0)
+                && branch.path.len() == len
+                && (before.end(), step.to) == (scope(last.0), scope(last.1))
+        }
+        None => false,
+    }
+}
+
+/// Whether a search along the chain finds its two branches alone, the longer one first.
+fn has_both_branches(alloc: Global) -> Result<bool, Fail> {
+    let o = branched(alloc)?;
+    let zeros = Expr::Star(Box::new(alloc, Expr::One(Label::new(0)))?);
+    match answer_of(alloc, o, zeros, 7)? {
+        Some((_, Answer::Paths(found))) => Ok(
+            found.len() == 2
+                && is_branch(&found, 0, 40, (39, 101))
+                && is_branch(&found, 1, 20, (19, 100)),
+        ),
+        _ => Ok(false),
+    }
+}
+
 #[test]
 fn an_answer_has_each_branch_of_a_chain(rt: HostRuntime) -> Result<(), Fail> {
-    let alloc = rt.alloc();
-    let zeros = Expr::Star(Box::new(alloc, Expr::One(Label::new(0)))?);
-    let Some((_, Answer::Paths(found))) = answer_of(alloc, branched(alloc)?, zeros, 7)? else {
-        return Err("not found".into());
-    };
-    if found.len() != 2 {
-        return Err("not two paths".into());
-    }
-    let (long, short) = (found.at(0), found.at(1));
-    assert_eq!(rt; (long.path.len(), short.path.len()), (40, 20));
-    let (Some((end, last)), Some((middle, side))) = (
-        long.path.split_last(),
-        short.path.split_last(),
-    ) else {
-        return Err("a path with no step".into());
-    };
-    assert_eq!(rt; (end.end(), last.to), (scope(39), scope(101)));
-    assert_eq!(rt; (middle.end(), side.to), (scope(19), scope(100)));
-    assert_eq!(rt;
-        (long.path.start(), short.path.start()),
-        (scope(0), scope(0))
-    );
-    assert_eq!(rt; (*long.datum, *short.datum), (7, 7));
+    assert!(rt; has_both_branches(rt.alloc())?);
     Ok(())
 }
