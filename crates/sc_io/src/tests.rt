@@ -224,26 +224,43 @@ fn walks_64_levels(rt: HostRuntime) -> Result<(), Fail> {
 }
 
 #[test]
-fn refuses_what_the_system_refuses(rt: HostRuntime) -> Result<(), Fail> {
+fn refuses_a_folder_that_is_not_there(rt: HostRuntime) -> Result<(), Fail> {
     let alloc = rt.alloc();
-    let folder = fresh_folder(&rt, "refused")?;
-    let root = folder.as_str();
-    let mut missing = DirTree::new(rt, below(alloc, root, "missing")?);
+    let folder = fresh_folder(&rt, "empty")?;
+    let mut missing = DirTree::new(rt, below(alloc, folder.as_str(), "missing")?);
     assert_eq!(rt; mark(missing.list(alloc)), 'F');
-    symlink(&rt, ".", below(alloc, root, "loop")?)?;
+    fs::remove_dir_all(&rt, folder.as_str())?;
+    Ok(())
+}
+
+#[test]
+fn refuses_a_circle_of_links(rt: HostRuntime) -> Result<(), Fail> {
+    let alloc = rt.alloc();
+    let folder = fresh_folder(&rt, "circle")?;
+    let link = below(alloc, folder.as_str(), "loop")?;
+    symlink(&rt, ".", link.as_str())?;
     let mut tree = DirTree::new(rt, folder.clone()?);
     assert_eq!(rt; mark(tree.list(alloc)), 'F');
-    fs::remove_file(&rt, below(alloc, root, "loop")?)?;
+    fs::remove_file(&rt, link.as_str())?;
     assert_eq!(rt; mark(tree.list(alloc)), '.');
-    let locked = below(alloc, root, "locked")?;
+    fs::remove_dir_all(&rt, folder.as_str())?;
+    Ok(())
+}
+
+#[test]
+fn refuses_a_folder_that_may_not_be_read(rt: HostRuntime) -> Result<(), Fail> {
+    let alloc = rt.alloc();
+    let folder = fresh_folder(&rt, "refused")?;
+    let locked = below(alloc, folder.as_str(), "locked")?;
     fs::create_dir(&rt, locked.as_str())?;
     rt.set_permissions(locked.as_str(), Permissions::from_mode(0))?;
     // Root may read every folder.
     if fs::read_dir(&rt, locked.as_str()).is_err() {
+        let mut tree = DirTree::new(rt, folder.clone()?);
         assert_eq!(rt; mark(tree.list(alloc)), 'F');
     }
     rt.set_permissions(locked.as_str(), Permissions::from_mode(0o700))?;
-    fs::remove_dir_all(&rt, root)?;
+    fs::remove_dir_all(&rt, folder.as_str())?;
     Ok(())
 }
 

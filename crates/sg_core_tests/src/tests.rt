@@ -79,14 +79,30 @@ fn go_on_by_all(alloc: Global, run: &mut Run, lines: &str, story: &mut Story) ->
     Ok(())
 }
 
-/// What comes of a case.
-fn story_of(alloc: Global, case: &str) -> Result<Story, Fail> {
+/// Tells a run that began with an opening, by the lines of its case.
+fn put_run(
+    alloc: Global,
+    run: &mut Run,
+    opening: &str,
+    lines: &str,
+    story: &mut Story,
+) -> Result<(), Fail> {
+    writeln!(story.text, "{opening}")?;
+    go_on_by_all(alloc, run, lines, story)?;
+    put_log(&mut story.log, run.log())
+}
+
+/// Tells a case.
+fn put_case(alloc: Global, case: &str, story: &mut Story) -> Result<(), Fail> {
     let (opening, lines) = parts_of(case)?;
     let mut run = begun(alloc, opening)?;
+    put_run(alloc, &mut run, opening, lines, story)
+}
+
+/// What comes of a case.
+fn story_of(alloc: Global, case: &str) -> Result<Story, Fail> {
     let mut story = no_story(alloc);
-    writeln!(story.text, "{opening}")?;
-    go_on_by_all(alloc, &mut run, lines, &mut story)?;
-    put_log(&mut story.log, run.log())?;
+    put_case(alloc, case, &mut story)?;
     Ok(story)
 }
 

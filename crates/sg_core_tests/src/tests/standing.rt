@@ -148,6 +148,35 @@ fn put_plain(
     put_answer(text, &answer)
 }
 
+/// Writes what a query from the scope of a name finds in a graph, by a table of one kind.
+fn put_plain_of(
+    alloc: Global,
+    text: &mut String,
+    graph: &Graph<u64>,
+    name: &str,
+) -> Result<(), Fail> {
+    let table = table_of(alloc, one_step())?;
+    put_plain(alloc, text, graph, &table, scope_of(name)?)
+}
+
+/// Writes what words ask of the graph of a run.
+fn look_at_graph(
+    alloc: Global,
+    run: &Run,
+    word: &str,
+    rest: &str,
+    text: &mut String,
+) -> Result<(), Fail> {
+    let graph = run.graph()?;
+    if word == "graph" {
+        return put_graph(text, &graph);
+    }
+    if word == "plain" {
+        return put_plain_of(alloc, text, &graph, rest);
+    }
+    Err(Fail::new("no such words"))
+}
+
 /// Writes what words ask of how a run stands.
 pub(crate) fn look(
     alloc: Global,
@@ -165,13 +194,5 @@ pub(crate) fn look(
     if word == "shown" {
         return put_shown(text, run);
     }
-    let graph = run.graph()?;
-    if word == "graph" {
-        return put_graph(text, &graph);
-    }
-    if word == "plain" {
-        let table = table_of(alloc, one_step())?;
-        return put_plain(alloc, text, &graph, &table, scope_of(rest)?);
-    }
-    Err(Fail::new("no such words"))
+    look_at_graph(alloc, run, word, rest, text)
 }
