@@ -92,48 +92,85 @@ fn chosen_calls_fail(rt: HostRuntime) -> Result<(), Fail> {
     Ok(())
 }
 
-#[test]
-fn plain_tree_lists_and_reads(rt: HostRuntime) -> Result<(), Fail> {
-    let alloc = rt.alloc();
+/// What a tree of the three files tells of one of them, up to so many bytes.
+fn read_of_three(alloc: Global, limit: u64) -> Result<String, Fail> {
+    let mut tree = PlainTree::new(three_files(alloc)?);
+    let content = tree.read(alloc, "b/B.java", limit)?;
+    Ok(shown(alloc, content)?)
+}
+
+/// The sources that a tree of the three files lists.
+fn list_of_three(alloc: Global) -> Result<String, Fail> {
     let mut tree = PlainTree::new(three_files(alloc)?);
     let paths = tree.list(alloc)?;
-    assert_eq!(rt; listed(alloc, paths)?.as_str(), "A.java b/B.java ");
+    Ok(listed(alloc, paths)?)
+}
+
+#[test]
+fn plain_tree_lists_and_reads(rt: HostRuntime) -> Result<(), Fail> {
+    let paths = list_of_three(rt.alloc())?;
+    assert_eq!(rt; paths.as_str(), "A.java b/B.java ");
     for (limit, want) in [(9, "too long"), (10, "class B {}")] {
-        let mut tree = PlainTree::new(three_files(alloc)?);
-        let content = tree.read(alloc, "b/B.java", limit)?;
-        assert_eq!(rt; shown(alloc, content)?.as_str(), want);
+        let text = read_of_three(rt.alloc(), limit)?;
+        assert_eq!(rt; text.as_str(), want);
     }
     Ok(())
+}
+
+#[test]
+fn a_plain_sink_takes_all(rt: HostRuntime) -> Result<(), Fail> {
+    let mut plain = PlainSink::new(rt.alloc());
+    plain.put(b"two ")?;
+    plain.put(b"pieces")?;
+    assert_eq!(rt; plain.taken(), b"two pieces".as_slice());
+    Ok(())
+}
+
+/// Whether a put of `hello` ends so in a sink with this room, and this is written.
+fn takes_in(alloc: Global, room: u64, want: char, written: &str) -> bool {
+    let mut sink = MemSink::new(alloc, Some(room));
+    put_mark(sink.put(b"hello")) == want && sink.taken() == written.as_bytes()
 }
 
 #[test]
 fn sinks_take_what_fits(rt: HostRuntime) -> Result<(), Fail> {
-    let alloc = rt.alloc();
-    let mut plain = PlainSink::new(alloc);
-    plain.put(b"two ")?;
-    plain.put(b"pieces")?;
-    assert_eq!(rt; plain.taken(), b"two pieces".as_slice());
     let rows = [
-        (0, "F", ""),
-        (1, "F", "h"),
-        (2, "F", "he"),
-        (3, "F", "hel"),
-        (4, "F", "hell"),
-        (5, ".", "hello"),
+        (0, 'F', ""),
+        (1, 'F', "h"),
+        (2, 'F', "he"),
+        (3, 'F', "hel"),
+        (4, 'F', "hell"),
+        (5, '.', "hello"),
     ];
     for (room, want, written) in rows {
-        let mut sink = MemSink::new(alloc, Some(room));
-        let mut seen = String::new(alloc);
-        seen.push(put_mark(sink.put(b"hello")))?;
-        assert_eq!(rt; seen.as_str(), want);
-        assert_eq!(rt; sink.taken(), written.as_bytes());
+        assert!(rt; takes_in(rt.alloc(), room, want, written), "{room}");
     }
     Ok(())
 }
 
+/// What becomes of three puts.
+fn three_puts(alloc: Global, sink: &mut CutSink) -> Result<String, AllocError> {
+    let mut seen = String::new(alloc);
+    for piece in ["one", "two", "three"] {
+        seen.push(put_mark(sink.put(piece.as_bytes())))?;
+    }
+    Ok(seen)
+}
+
+/// Whether three puts end so in a sink with these cuts, and this is written in all.
+fn is_cut(
+    alloc: Global,
+    cuts: &[(u64, u64)],
+    want: &str,
+    written: &str,
+) -> Result<bool, AllocError> {
+    let mut sink = CutSink::new(alloc, Vec::from_slice(alloc, cuts)?);
+    let seen = three_puts(alloc, &mut sink)?;
+    Ok(seen.as_str() == want && sink.taken() == written.as_bytes())
+}
+
 #[test]
 fn a_cut_put_takes_a_front_and_fails(rt: HostRuntime) -> Result<(), Fail> {
-    let alloc = rt.alloc();
     // Cuts, what becomes of three puts, and what is written in all.
     let rows: [(&[(u64, u64)], &str, &str); 5] = [
         (&[], "...", "onetwothree"),
@@ -143,13 +180,7 @@ fn a_cut_put_takes_a_front_and_fails(rt: HostRuntime) -> Result<(), Fail> {
         (&[(3, 0)], "...", "onetwothree"),
     ];
     for (cuts, want, written) in rows {
-        let mut sink = CutSink::new(alloc, Vec::from_slice(alloc, cuts)?);
-        let mut seen = String::new(alloc);
-        for piece in ["one", "two", "three"] {
-            seen.push(put_mark(sink.put(piece.as_bytes())))?;
-        }
-        assert_eq!(rt; seen.as_str(), want);
-        assert_eq!(rt; sink.taken(), written.as_bytes());
+        assert!(rt; is_cut(rt.alloc(), cuts, want, written)?);
     }
     Ok(())
 }
@@ -168,33 +199,56 @@ fn below(alloc: Global, folder: &str, name: &str) -> Result<String, AllocError> 
     format!(in alloc; "{folder}/{name}")
 }
 
+/// Makes a folder with sources, another file and links.
+fn fill(rt: &HostRuntime, root: &str) -> Result<(), Fail> {
+    let alloc = rt.alloc();
+    fs::create_dir_all(rt, below(alloc, root, "a/b.java")?)?;
+    fs::write(rt, below(alloc, root, "A.java")?, "class A {}")?;
+    fs::write(rt, below(alloc, root, "a/b.java/C.java")?, "class C {}")?;
+    fs::write(rt, below(alloc, root, "a/notes.txt")?, "some notes")?;
+    symlink(rt, "A.java", below(alloc, root, "L.java")?)?;
+    symlink(rt, "a", below(alloc, root, "z")?)?;
+    symlink(rt, "nothing", below(alloc, root, "N.java")?)?;
+    Ok(())
+}
+
+/// The sources that a tree lists.
+fn list_of(alloc: Global, tree: &mut DirTree<HostRuntime>) -> Result<String, Fail> {
+    let paths = tree.list(alloc)?;
+    Ok(listed(alloc, paths)?)
+}
+
+/// What a tree tells of a file, up to so many bytes.
+fn read_of(
+    alloc: Global,
+    tree: &mut DirTree<HostRuntime>,
+    path: &str,
+    limit: u64,
+) -> Result<String, Fail> {
+    let content = tree.read(alloc, path, limit)?;
+    Ok(shown(alloc, content)?)
+}
+
+/// Whether a tree lists and reads the sources of the folder.
+fn is_walked(alloc: Global, tree: &mut DirTree<HostRuntime>) -> Result<bool, Fail> {
+    let paths = list_of(alloc, tree)?;
+    let whole = read_of(alloc, tree, "L.java", 10)?;
+    let long = read_of(alloc, tree, "a/b.java/C.java", 9)?;
+    Ok(
+        paths.as_str() == "A.java L.java a/b.java/C.java z/b.java/C.java "
+            && whole.as_str() == "class A {}"
+            && long.as_str() == "too long",
+    )
+}
+
 #[test]
 fn walks_the_file_system(rt: HostRuntime) -> Result<(), Fail> {
-    let alloc = rt.alloc();
     let folder = fresh_folder(&rt, "walks")?;
-    let root = folder.as_str();
-    fs::create_dir_all(&rt, below(alloc, root, "a/b.java")?)?;
-    fs::write(&rt, below(alloc, root, "A.java")?, "class A {}")?;
-    fs::write(&rt, below(alloc, root, "a/b.java/C.java")?, "class C {}")?;
-    fs::write(&rt, below(alloc, root, "a/notes.txt")?, "some notes")?;
-    symlink(&rt, "A.java", below(alloc, root, "L.java")?)?;
-    symlink(&rt, "a", below(alloc, root, "z")?)?;
-    symlink(&rt, "nothing", below(alloc, root, "N.java")?)?;
+    fill(&rt, folder.as_str())?;
     let mut tree = DirTree::new(rt, folder.clone()?);
-    let paths = tree.list(alloc)?;
-    assert_eq!(rt;
-        listed(alloc, paths)?.as_str(),
-        "A.java L.java a/b.java/C.java z/b.java/C.java "
-    );
-    for (path, limit, want) in [
-        ("L.java", 10, "class A {}"),
-        ("a/b.java/C.java", 9, "too long"),
-    ] {
-        let content = tree.read(alloc, path, limit)?;
-        assert_eq!(rt; shown(alloc, content)?.as_str(), want);
-    }
-    assert_eq!(rt; mark(tree.read(alloc, "missing.java", 10)), 'F');
-    fs::remove_dir_all(&rt, root)?;
+    assert!(rt; is_walked(rt.alloc(), &mut tree)?);
+    assert_eq!(rt; mark(tree.read(rt.alloc(), "missing.java", 10)), 'F');
+    fs::remove_dir_all(&rt, folder.as_str())?;
     Ok(())
 }
 
@@ -264,24 +318,35 @@ fn refuses_a_folder_that_may_not_be_read(rt: HostRuntime) -> Result<(), Fail> {
     Ok(())
 }
 
+/// Makes a folder with four entries: a folder, two sources and another file.
+fn fill_by_four(rt: &HostRuntime, root: &str) -> Result<(), Fail> {
+    let alloc = rt.alloc();
+    fs::create_dir_all(rt, below(alloc, root, "a")?)?;
+    fs::write(rt, below(alloc, root, "A.java")?, "class A {}")?;
+    fs::write(rt, below(alloc, root, "a/B.java")?, "class B {}")?;
+    fs::write(rt, below(alloc, root, "a/notes.txt")?, "some notes")?;
+    Ok(())
+}
+
+/// The sources that are found below a folder with room for so many entries.
+fn found_in(rt: &HostRuntime, root: &str, room: u32) -> Result<String, Fail> {
+    let paths = java_paths_below(rt, rt.alloc(), root, room)?;
+    Ok(listed(rt.alloc(), paths)?)
+}
+
 #[test]
 fn walks_up_to_a_number_of_entries(rt: HostRuntime) -> Result<(), Fail> {
-    let alloc = rt.alloc();
     let folder = fresh_folder(&rt, "entries")?;
-    let root = folder.as_str();
-    // Four entries: a folder, two sources and another file.
-    fs::create_dir_all(&rt, below(alloc, root, "a")?)?;
-    fs::write(&rt, below(alloc, root, "A.java")?, "class A {}")?;
-    fs::write(&rt, below(alloc, root, "a/B.java")?, "class B {}")?;
-    fs::write(&rt, below(alloc, root, "a/notes.txt")?, "some notes")?;
+    fill_by_four(&rt, folder.as_str())?;
     for room in 0..4 {
-        assert_eq!(rt; mark(java_paths_below(&rt, alloc, root, room)), 'F');
+        let found = mark(java_paths_below(&rt, rt.alloc(), folder.as_str(), room));
+        assert_eq!(rt; found, 'F');
     }
     for room in 4..6 {
-        let paths = java_paths_below(&rt, alloc, root, room)?;
-        assert_eq!(rt; listed(alloc, paths)?.as_str(), "A.java a/B.java ");
+        let found = found_in(&rt, folder.as_str(), room)?;
+        assert_eq!(rt; found.as_str(), "A.java a/B.java ");
     }
-    fs::remove_dir_all(&rt, root)?;
+    fs::remove_dir_all(&rt, folder.as_str())?;
     Ok(())
 }
 
