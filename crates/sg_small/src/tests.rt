@@ -174,6 +174,18 @@ fn list(
     Ok(units)
 }
 
+/// A core of the three types with a table, on which nothing is done yet.
+fn opened(alloc: Global, table: KindTable) -> Result<Option<Core<Numbers, u64>>, AllocError>
+    ensures { IfOk result (λ o. IfSome o (λ c. c ≡ record { opening = three; kinds = table; log = [] })) }
+{
+    let o = opening(alloc)?;
+    if !o.is_sound() {
+        return Ok(None);
+    }
+    let core = Core::open(alloc, o, table)?;
+    Ok(Some(core))
+}
+
 /// The core of a run of three readers with a table of one kind.
 fn serve(
     alloc: Global,
@@ -183,17 +195,17 @@ fn serve(
 ) -> Result<Option<Core<Numbers, u64>>, AllocError>
     requires { length table ≡ 1 }
 {
-    let o = opening(alloc)?;
-    if !o.is_sound() {
-        return Ok(None);
-    }
     let a = reader(alloc, 0, &table, headers[0])?;
     let b = reader(alloc, 1, &table, headers[1])?;
     let c = reader(alloc, 2, &table, headers[2])?;
     let units = list(alloc, a, b, c)?;
-    let core = Core::<Numbers, u64>::open(alloc, o, table)?;
-    let run = run_serial::<Follower<Reader>>(alloc, core, units, order)?;
-    Ok(Some(run))
+    match opened(alloc, table)? {
+        Some(core) => {
+            let run = run_serial::<Follower<Reader>>(alloc, core, units, order)?;
+            Ok(Some(run))
+        }
+        None => Ok(None),
+    }
 }
 
 /// The core of a run of the readers of these headers, in this order.

@@ -152,6 +152,36 @@ fn came_to(core: &Core<Numbers, u64>, phase: Phase, count: u32) -> bool {
     core.phase() == phase && core.units() == count && core.result(count).is_none()
 }
 
+/// Whether a run of so many links, one at a time, came to this.
+fn alone_comes_to(
+    alloc: Global,
+    shape: Shape,
+    phase: Phase,
+    count: u32,
+) -> Result<bool, AllocError> {
+    match alone(alloc, shape, count)? {
+        Some(core) => Ok(came_to(&core, phase, count)),
+        None => Ok(false),
+    }
+}
+
+/// Whether a run of so many links by workers came to this.
+fn together_comes_to<Rt: Threads + Wait + Sync>(
+    rt: &Rt,
+    alloc: Global,
+    shape: Shape,
+    phase: Phase,
+    count: u32,
+    workers: u32,
+) -> Result<bool, AllocError>
+    requires { 1 ≤ workers }
+{
+    match together(rt, alloc, shape, count, workers)? {
+        Some(core) => Ok(came_to(&core, phase, count)),
+        None => Ok(false),
+    }
+}
+
 #[test]
 fn workers_come_to_what_one_thread_comes_to(rt: HostRuntime) -> Result<(), Fail> {
     let cases = [
@@ -164,11 +194,9 @@ fn workers_come_to_what_one_thread_comes_to(rt: HostRuntime) -> Result<(), Fail>
         (Shape::Chain, 0, Phase::Ended),
     ];
     for (shape, count, phase) in cases {
-        let served = alone(rt.alloc(), shape, count)?;
-        assert!(rt; matches!(&served, Some(core) if came_to(core, phase, count)));
+        assert!(rt; alone_comes_to(rt.alloc(), shape, phase, count)?);
         for workers in [1, 2, 8, 64] {
-            let ran = together(&rt, rt.alloc(), shape, count, workers)?;
-            assert!(rt; matches!(&ran, Some(core) if came_to(core, phase, count)));
+            assert!(rt; together_comes_to(&rt, rt.alloc(), shape, phase, count, workers)?);
         }
     }
     Ok(())
