@@ -15,8 +15,6 @@ mod places;
 mod punctuation;
 mod quotes;
 mod scanner;
-#[cfg(test)]
-mod tests;
 mod token;
 mod words;
 

@@ -13,8 +13,6 @@ mod kinds;
 pub mod laws;
 mod promotion;
 mod side;
-#[cfg(test)]
-mod tests;
 mod unary_operators;
 
 pub use assigning::{assignable, subtype};

@@ -10,8 +10,6 @@ mod read;
 mod reading;
 mod source_read;
 mod sources;
-#[cfg(test)]
-mod tests;
 
 pub use read::read_sources;
 pub use sources::Sources;

@@ -31,6 +31,3 @@ pub use path_view::PathView;
 pub use scope::Scope;
 pub use scope_set::ScopeSet;
 pub use step::Step;
-
-#[cfg(test)]
-mod tests;

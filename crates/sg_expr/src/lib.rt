@@ -9,12 +9,7 @@ mod build;
 mod expr;
 mod laying;
 mod positions;
-#[cfg(test)]
-mod positions_tests;
 mod same;
 
 pub use expr::Expr;
 pub use positions::Positions;
-
-#[cfg(test)]
-mod tests;

@@ -16,6 +16,3 @@ pub use answers::Answers;
 pub use known::Known;
 pub use replies::Replies;
 pub use stop::Stop;
-
-#[cfg(test)]
-mod tests;

@@ -22,6 +22,3 @@ mod view;
 pub use storied::Storied;
 pub use turn::Turn;
 pub use turn_seat::TurnSeat;
-
-#[cfg(test)]
-mod tests;

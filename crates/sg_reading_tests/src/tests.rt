@@ -1,5 +1,5 @@
-use super::*;
-use crate::example::{Answer, Query, member, places};
+use sg_reading::example::{Answer, Query, member, places};
+use sg_reading::{Known, Replies, Stop};
 use std::test::Fail;
 
 #[test]

@@ -4,8 +4,8 @@ use super::{
     OBJECT, STRING, animal, bad, boolean, char, coin, dog, int, long, named, null, object, plain,
     stone, string, void,
 };
-use crate::{Side, binary, conditional, unary};
 use jv_instance::{Ty, TypeBase};
+use jv_types::{Side, binary, conditional, unary};
 
 const MORE: u8 = 13;
 

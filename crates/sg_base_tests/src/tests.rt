@@ -2,7 +2,7 @@
 
 ghost use Rattle.std.specs.Prelude.{◌<◌};
 
-use crate::{Graph, Instance, Label, LabelSet, Mark, Path, PathTree, Scope, Step};
+use sg_base::{Graph, Instance, Label, LabelSet, Mark, Path, PathTree, Scope, Step};
 use std::alloc::{AllocError, Global};
 use std::cmp::Ordering;
 use std::test::Fail;
@@ -136,7 +136,7 @@ impl Instance for Numbers {
     ghost use Rattle.std.specs.Prelude.{◌≡◌, ◌==◌, nat_eq, Bool, true, IsTrue, ℕ, Option, Some, None, refl};
     ghost use Rattle.std.proofs.Common.{sym, ◌∙◌, eq-eqb, eqb-true, arith};
     ghost use Rattle.std.proofs.lemmas.Bool.Decides.{nat_tests};
-    ghost use Rattle.sg_base.specs.declared.tests.Wanted.TheVariants.{Is, Any};
+    ghost use Rattle.sg_base_tests.specs.declared.tests.Wanted.TheVariants.{Is, Any};
 
     type Datum = u64;
 

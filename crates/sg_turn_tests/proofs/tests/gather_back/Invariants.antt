@@ -1,7 +1,7 @@
 use Rattle.std.proofs.Common.{◌≡◌, ◌+◌, false, [], All, length, vec_len}
 use Rattle.std.specs.Prelude.{IfOk}
 use Rattle.sg_turn.specs.Turn.{IsOf}
-use Rattle.sg_turn.proofs.tests.gather_back.Given as goal
+use Rattle.sg_turn_tests.proofs.tests.gather_back.Given as goal
 
 abbrev pub invariant-loop-other : goal.invariant-loop-other
 invariant-loop-other l = record {

@@ -1,10 +1,10 @@
 use Rattle.std.proofs.Common.{◌≡◌, ◌∙◌, ◌-◌, ◌∷◌, ◌++◌, [], false, ap, sym, length, arith, length-append}
 use Rattle.std.proofs.lemmas.List.Elements.{All-cons, All-nil, All-append, All-same}
-use Rattle.sg_turn.specs.declared.tests.Job.{Job}
+use Rattle.sg_turn_tests.specs.declared.tests.Job.{Job}
 use Rattle.sg_turn.specs.Turn.{IsOf, fresh_seats}
 use Rattle.sg_turn.specs.TurnSeat.{fresh_seat}
 use Rattle.sg_turn.proofs.SeatLists.{fresh_seats-pop}
-use Rattle.sg_turn.proofs.tests.jobs_of.Goals as goal
+use Rattle.sg_turn_tests.proofs.tests.jobs_of.Goals as goal
 
 pub loop-seat-preserved : goal.loop-seat-preserved
 loop-seat-preserved c = let t = c.args.turn.now in let n = c.loop-seat.number in let others = c.pop.new.self.items in

@@ -5,8 +5,8 @@ use super::{
     OBJECT, animal, bad, boolean, char, coin, dog, int, long, named, null, object, plain, round,
     stone, string, titled, void,
 };
-use crate::{Side, assignable, castable, is_numeric, is_reference, promote, subtype};
 use jv_instance::TypeBase;
+use jv_types::{Side, assignable, castable, is_numeric, is_reference, promote, subtype};
 
 fn converts(a: Side<'_>, b: Side<'_>, forth: bool, back: bool, cast: bool) -> bool {
     assignable(a.ty, b.ty, a.up, OBJECT) == forth

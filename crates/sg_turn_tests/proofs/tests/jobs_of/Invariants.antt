@@ -1,6 +1,6 @@
 use Rattle.std.proofs.Common.{◌≡◌, ◌+◌, false, [], All, length, vec_len}
 use Rattle.sg_turn.specs.Turn.{IsOf, fresh_seats}
-use Rattle.sg_turn.proofs.tests.jobs_of.Given as goal
+use Rattle.sg_turn_tests.proofs.tests.jobs_of.Given as goal
 
 abbrev pub invariant-loop-seat : goal.invariant-loop-seat
 invariant-loop-seat l = record {

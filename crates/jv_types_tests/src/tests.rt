@@ -11,8 +11,8 @@
 mod conversions;
 mod operators;
 
-use crate::Side;
 use jv_instance::{Ty, TypeBase};
+use jv_types::Side;
 use sg_base::Scope;
 
 pub(crate) const OBJECT: Scope = Scope { unit: 7, serial: 0 };

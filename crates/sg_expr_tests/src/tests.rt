@@ -1,7 +1,7 @@
 //! An expression over two labels, and what is left of it behind each.
 
-use crate::Expr;
 use sg_base::Label;
+use sg_expr::Expr;
 use std::alloc::{AllocError, Global};
 use std::test::Fail;
 

@@ -2,7 +2,7 @@
 
 ghost use Rattle.std.specs.Prelude.{◌≤◌, length};
 
-use crate::{LexFault, lex, place};
+use jv_lex::{LexFault, lex, place};
 use std::alloc::Global;
 use std::fmt::Write;
 use std::test::Fail;

@@ -2,8 +2,8 @@
 
 ghost use Rattle.std.specs.Prelude.{◌<◌};
 
-use crate::{Expr, Positions};
 use sg_base::Label;
+use sg_expr::{Expr, Positions};
 use std::alloc::{AllocError, Global};
 use std::test::Fail;
 

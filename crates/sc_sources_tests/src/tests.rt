@@ -4,8 +4,8 @@ ghost use Rattle.std.specs.Prelude.{IsTrue};
 ghost use Rattle.sc_io.specs.SourceFile.{sources_of};
 ghost use Rattle.sc_sources.specs.Read.{AreWithinLimits};
 
-use crate::{Sources, read_sources};
 use sc_io::SourceFile;
+use sc_sources::{Sources, read_sources};
 use std::alloc::{AllocError, Global};
 use std::fmt::Write;
 use std::test::Fail;

@@ -1,7 +1,7 @@
 ghost use Rattle.std.specs.Prelude.{◌≡◌, ◌+◌, ◌<◌, ◌++◌, [], ◌∷◌, ℕ, IfOk, OnOk, OnErr, All, length, false, true};
 ghost use Rattle.sg_turn.specs.Turn.{IsOf, fresh_seats};
 
-use crate::{Storied, Turn, TurnSeat};
+use sg_turn::{Storied, Turn, TurnSeat};
 use std::alloc::{AllocError, Global};
 use std::sync::Wait;
 use std::test::Fail;

@@ -1,7 +1,7 @@
 use Rattle.std.proofs.Common.{◌≡◌, ◌≤◌, ◌*◌, length, take}
 use Rattle.std.specs.List.{All, sum_by}
 use Rattle.sc_io.specs.SourceFile.{sources_of}
-use Rattle.sc_sources.proofs.tests.are_within_limits.Given as goal
+use Rattle.sc_sources_tests.proofs.tests.are_within_limits.Given as goal
 
 abbrev pub invariant-loop-file : goal.invariant-loop-file
 invariant-loop-file l = record {

@@ -1,6 +1,6 @@
 use Rattle.std.proofs.Common.{◌≡◌, false, []}
 use Rattle.sg_turn.specs.Turn.{IsOf}
-use Rattle.sg_turn.proofs.tests.tell_all.Given as goal
+use Rattle.sg_turn_tests.proofs.tests.tell_all.Given as goal
 
 abbrev pub invariant-loop-count : goal.invariant-loop-count
 invariant-loop-count g l = record {
