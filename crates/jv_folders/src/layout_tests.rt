@@ -32,9 +32,17 @@ impl Folder<'_> {
         }
     }
 
-    /// The printed name of a scope.
-    fn title(&self, s: Scope) -> Result<String, AllocError> {
-        title_of(self.alloc, self.files, self.names, self.layout, s)
+    /// Adds the printed name of a scope.
+    fn add_title(&self, text: &mut String, s: Scope) -> Result<(), AllocError> {
+        let title = title_of(self.alloc, self.files, self.names, self.layout, s)?;
+        text.push_str(title.as_str())
+    }
+
+    /// Adds the number of a unit, and the printed name of a scope.
+    fn add_held(&self, text: &mut String, unit: u32, s: Scope) -> Result<(), Fail> {
+        write!(text, "{}: ", unit)?;
+        self.add_title(text, s)?;
+        Ok(())
     }
 
     /// Adds the edges with a label, a line for each.
@@ -46,9 +54,10 @@ impl Folder<'_> {
     ) -> Result<(), Fail> {
         for (from, by, to) in &opening.edges {
             if by.number() == label && !self.is_preludes(*from) && !self.is_preludes(*to) {
-                let from = self.title(*from)?;
-                let to = self.title(*to)?;
-                writeln!(text, "{} {} {}", from.as_str(), word_of(label), to.as_str())?;
+                self.add_title(text, *from)?;
+                write!(text, " {} ", word_of(label))?;
+                self.add_title(text, *to)?;
+                text.push('\n')?;
             }
         }
         Ok(())
@@ -58,14 +67,8 @@ impl Folder<'_> {
     fn add_rows(&self, text: &mut String, opening: &Opening<JavaDatum>) -> Result<(), Fail> {
         for (unit, scope, label) in &opening.row_holds {
             if !self.is_preludes(*scope) {
-                let title = self.title(*scope)?;
-                writeln!(
-                    text,
-                    "{}: {} {}",
-                    *unit,
-                    title.as_str(),
-                    word_of(label.number())
-                )?;
+                self.add_held(text, *unit, *scope)?;
+                writeln!(text, " {}", word_of(label.number()))?;
             }
         }
         Ok(())
@@ -75,44 +78,54 @@ impl Folder<'_> {
     fn add_signatures(&self, text: &mut String, opening: &Opening<JavaDatum>) -> Result<(), Fail> {
         for (unit, scope) in &opening.datum_holds {
             if !self.is_preludes(*scope) {
-                let title = self.title(*scope)?;
-                writeln!(text, "{}: {}", *unit, title.as_str())?;
+                self.add_held(text, *unit, *scope)?;
+                text.push('\n')?;
             }
         }
         Ok(())
     }
 
-    /// Adds the scopes, a line for each with its kind and the type that declares it.
-    fn add_scopes(&self, text: &mut String, opening: &Opening<JavaDatum>) -> Result<(), Fail> {
+    /// Adds the line of a scope, with its kind and the type that declares it.
+    fn add_scope(&self, text: &mut String, scope: Scope) -> Result<(), AllocError> {
+        text.push_str(kind_of(self.layout.place(scope)))?;
+        text.push(' ')?;
+        self.add_title(text, scope)?;
+        if let Some(owner) = self.layout.owner(scope) {
+            text.push_str(" of ")?;
+            self.add_title(text, owner)?;
+        }
+        text.push('\n')
+    }
+
+    /// Adds the scopes, a line for each.
+    fn add_scopes(
+        &self,
+        text: &mut String,
+        opening: &Opening<JavaDatum>,
+    ) -> Result<(), AllocError> {
         for scope in &opening.scopes {
             if !self.is_preludes(*scope) {
-                let title = self.title(*scope)?;
-                write!(
-                    text,
-                    "{} {}",
-                    kind_of(self.layout.place(*scope)),
-                    title.as_str()
-                )?;
-                if let Some(owner) = self.layout.owner(*scope) {
-                    let owner = self.title(owner)?;
-                    write!(text, " of {}", owner.as_str())?;
-                }
-                writeln!(text)?;
+                self.add_scope(text, *scope)?;
             }
         }
         Ok(())
     }
 
-    /// The scopes, the edges by label, and the rows and the signatures that units hold.
+    /// Adds the scopes, the edges by label, and the rows and the signatures that units hold.
+    fn add_opening(&self, text: &mut String, opening: &Opening<JavaDatum>) -> Result<(), Fail> {
+        self.add_scopes(text, opening)?;
+        for label in 0..11u8 {
+            self.add_edges(text, opening, label)?;
+        }
+        self.add_rows(text, opening)?;
+        self.add_signatures(text, opening)
+    }
+
+    /// The text of the opening.
     fn text(&self) -> Result<String, Fail> {
         let opening = self.layout.opening(self.alloc)?;
         let mut text = String::new(self.alloc);
-        self.add_scopes(&mut text, &opening)?;
-        for label in 0..11u8 {
-            self.add_edges(&mut text, &opening, label)?;
-        }
-        self.add_rows(&mut text, &opening)?;
-        self.add_signatures(&mut text, &opening)?;
+        self.add_opening(&mut text, &opening)?;
         Ok(text)
     }
 }
@@ -142,6 +155,11 @@ fn opening_text(alloc: Global, files: Files) -> Result<String, Fail> {
         layout: &layout,
     };
     folder.text()
+}
+
+/// Whether the opening of the layout of these files is this text.
+fn is_opening(alloc: Global, files: Files, text: &str) -> Result<bool, Fail> {
+    Ok(opening_text(alloc, files)?.as_str() == text)
 }
 
 const CLASS_ABOVE: &str = "\
@@ -184,8 +202,7 @@ B#new SIG B#new!
 #[test]
 fn a_class_extends_one_of_another_file(rt: HostRuntime) -> Result<(), Fail> {
     let files = [("A.java", "class A extends B {}"), ("B.java", "class B {}")];
-    let found = opening_text(rt.alloc(), &files)?;
-    assert_eq!(rt; found.as_str(), CLASS_ABOVE);
+    assert!(rt; is_opening(rt.alloc(), &files, CLASS_ABOVE)?);
     Ok(())
 }
 
@@ -240,8 +257,7 @@ fn a_member_type_is_declared_by_its_type(rt: HostRuntime) -> Result<(), Fail> {
         ("A.java", "class A extends B.C {}"),
         ("B.java", "class B extends A { static class C {} }"),
     ];
-    let found = opening_text(rt.alloc(), &files)?;
-    assert_eq!(rt; found.as_str(), MEMBER_TYPE);
+    assert!(rt; is_opening(rt.alloc(), &files, MEMBER_TYPE)?);
     Ok(())
 }
 
@@ -312,8 +328,7 @@ fn imports_on_demand_are_no_edges_yet(rt: HostRuntime) -> Result<(), Fail> {
         ("p/T.java", "package p; public class T {}"),
         ("q/T.java", "package q; public class T {}"),
     ];
-    let found = opening_text(rt.alloc(), &files)?;
-    assert_eq!(rt; found.as_str(), IMPORTS_ON_DEMAND);
+    assert!(rt; is_opening(rt.alloc(), &files, IMPORTS_ON_DEMAND)?);
     Ok(())
 }
 
@@ -409,8 +424,7 @@ fn single_imports_are_no_edges_yet(rt: HostRuntime) -> Result<(), Fail> {
         ("q/T.java", "package q; public class T { public int n; }"),
         ("r/B.java", "package r; import p.T; import q.T; class B {}"),
     ];
-    let found = opening_text(rt.alloc(), &files)?;
-    assert_eq!(rt; found.as_str(), SINGLE_IMPORTS);
+    assert!(rt; is_opening(rt.alloc(), &files, SINGLE_IMPORTS)?);
     Ok(())
 }
 
@@ -475,8 +489,7 @@ fn fields_of_one_name_stand_in_several_types(rt: HostRuntime) -> Result<(), Fail
         "A.java",
         "class S { private boolean x; } class A { int x; class I extends S { int f() { return x; } } }",
     )];
-    let found = opening_text(rt.alloc(), &files)?;
-    assert_eq!(rt; found.as_str(), INNER_CLASS);
+    assert!(rt; is_opening(rt.alloc(), &files, INNER_CLASS)?);
     Ok(())
 }
 
@@ -653,8 +666,7 @@ fn packages_files_types_and_members_stand_in_order(rt: HostRuntime) -> Result<()
         ("shapes/Square.java", SQUARE_SOURCE),
         ("shapes/util/Text.java", TEXT_SOURCE),
     ];
-    let found = opening_text(rt.alloc(), &files)?;
-    assert_eq!(rt; found.as_str(), SHAPES);
+    assert!(rt; is_opening(rt.alloc(), &files, SHAPES)?);
     Ok(())
 }
 
@@ -685,7 +697,6 @@ fn a_second_string_has_no_edge(rt: HostRuntime) -> Result<(), Fail> {
         "java/lang/String.java",
         "package java.lang; public final class String {}",
     )];
-    let found = opening_text(rt.alloc(), &files)?;
-    assert_eq!(rt; found.as_str(), SECOND_STRING);
+    assert!(rt; is_opening(rt.alloc(), &files, SECOND_STRING)?);
     Ok(())
 }

@@ -144,6 +144,19 @@ fn tells_its_core(
     tells_all(titled, text, count)
 }
 
+/// The same where there is an outcome.
+fn is_outcome_told(
+    alloc: Global,
+    outcome: &Option<Outcome>,
+    text: &[u8],
+    count: usize,
+) -> Result<bool, Fail> {
+    match outcome {
+        Some(outcome) => Ok(tells_its_core(alloc, outcome, text, count)?),
+        None => Ok(false),
+    }
+}
+
 /// Whether the text of a folder's graph tells so many edges of imports and supertypes, each of the core's graph, which has no
 /// others.
 fn is_told<R: Threads + Wait + Sync>(
@@ -155,10 +168,7 @@ fn is_told<R: Threads + Wait + Sync>(
     let mut tree = PlainTree::new(folder(alloc, files)?);
     let mut out = PlainSink::new(alloc);
     let ran = run_gated(rt, alloc, &["graph", "x"], &mut tree, &mut out, &NoGate);
-    match &ran.outcome {
-        Some(outcome) => Ok(tells_its_core(alloc, outcome, out.taken(), count)?),
-        None => Ok(false),
-    }
+    is_outcome_told(alloc, &ran.outcome, out.taken(), count)
 }
 
 #[test]

@@ -2,11 +2,14 @@
 
 use crate::folders::{Files, folder};
 use crate::tests::{GRAPH_OF_TWO, TWO_FILES};
-use crate::thread_tests::written;
+use crate::thread_tests::is_written;
 use sc_app::{Status, run_gated};
 use sc_io::{PlainSink, PlainTree};
 use sg_unit::NoGate;
+use std::alloc::Global;
+use std::sync::Wait;
 use std::test::Fail;
+use std::thread::Threads;
 
 /// A command, a folder, what is written of it and how the run ends.
 type Listing = (&'static str, Files<'static>, &'static str, Status);
@@ -74,26 +77,32 @@ const LISTINGS: [Listing; 5] = [
 fn lists_small_folders(rt: HostRuntime) -> Result<(), Fail> {
     let alloc = rt.alloc();
     for (command, files, text, end) in LISTINGS {
-        let (status, out) = written(&rt, alloc, &[command, "x"], files)?;
-        assert_eq!(rt; out.taken(), text.as_bytes(), "{text}");
-        assert_eq!(rt; status, end, "{text}");
+        assert!(rt;
+            is_written(&rt, alloc, &[command, "x"], files, text, end)?,
+            "{text}"
+        );
     }
     Ok(())
+}
+
+/// Whether a run over two files hands its outcome back.
+fn hands_back<R: Threads + Wait + Sync>(
+    rt: &R,
+    alloc: Global,
+    words: &[&str],
+) -> Result<bool, Fail> {
+    let mut tree = PlainTree::new(folder(alloc, TWO_FILES)?);
+    let mut out = PlainSink::new(alloc);
+    let ran = run_gated(rt, alloc, words, &mut tree, &mut out, &NoGate);
+    Ok(ran.outcome.is_some())
 }
 
 #[test]
 fn outcomes_are_handed_back_beside_listings(rt: HostRuntime) -> Result<(), Fail> {
     let alloc = rt.alloc();
-    for (words, there) in [
-        (["graph", "x"], true),
-        (["answers", "x"], true),
-        (["gen", "2"], true),
-        (["gen", "0"], false),
-    ] {
-        let mut tree = PlainTree::new(folder(alloc, TWO_FILES)?);
-        let mut out = PlainSink::new(alloc);
-        let ran = run_gated(&rt, alloc, &words, &mut tree, &mut out, &NoGate);
-        assert_eq!(rt; ran.outcome.is_some(), there);
-    }
+    assert!(rt; hands_back(&rt, alloc, &["graph", "x"])?);
+    assert!(rt; hands_back(&rt, alloc, &["answers", "x"])?);
+    assert!(rt; hands_back(&rt, alloc, &["gen", "2"])?);
+    assert!(rt; !hands_back(&rt, alloc, &["gen", "0"])?);
     Ok(())
 }

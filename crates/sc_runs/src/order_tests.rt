@@ -75,16 +75,23 @@ fn report_in_order(alloc: Global, files: Files, order: &[u32]) -> Result<Vec<u8>
     }
 }
 
+/// Whether a folder has the same report in each order.
+fn is_same_in_each_order(alloc: Global, row: &str) -> Result<bool, Fail> {
+    let (files, report) = files_and_report(row)?;
+    for order in ORDERS {
+        if report_in_order(alloc, files, order)?.as_slice() != report.as_bytes() {
+            return Ok(false);
+        }
+    }
+    Ok(true)
+}
+
 #[test]
 fn any_order_of_steps_reports_the_same(rt: HostRuntime) -> Result<(), Fail> {
     let alloc = rt.alloc();
     for table in TABLES {
         for row in table.split("==\n") {
-            let (files, report) = files_and_report(row)?;
-            for order in ORDERS {
-                let text = report_in_order(alloc, files, order)?;
-                assert_eq!(rt; text.as_slice(), report.as_bytes(), "{row}");
-            }
+            assert!(rt; is_same_in_each_order(alloc, row)?, "{row}");
         }
     }
     Ok(())

@@ -6,6 +6,7 @@ ghost use Rattle.sc_io.specs.SourceTree.{HasDistinctPaths};
 
 use crate::folders::{File, Files, add_file, files_and_report, folder};
 use crate::tables::{FOUR_FILES, NO_SOURCE, TABLES};
+use crate::thread_tests::is_written;
 use sc_app::{Status, Which, run};
 use sc_io::{CutSink, MemSink, MemTree, PlainSink, PlainTree};
 use std::alloc::Global;
@@ -54,14 +55,20 @@ fn spaces(alloc: Global, sizes: &[usize]) -> Result<Vec<File>, Fail>
     Ok(all)
 }
 
-/// What a run over files writes, and how it ends.
-fn checked<R: Threads + Wait + Sync>(rt: &R, alloc: Global, files: Vec<File>) -> (Status, PlainSink)
+/// Whether a run over files writes this text, and ends so.
+fn is_checked<R: Threads + Wait + Sync>(
+    rt: &R,
+    alloc: Global,
+    files: Vec<File>,
+    text: &str,
+    end: Status,
+) -> bool
     requires { HasDistinctPaths (files_of files.items) }
 {
     let mut tree = PlainTree::new(files);
     let mut out = PlainSink::new(alloc);
     let status = run(rt, alloc, &["check", "x"], &mut tree, &mut out);
-    (status, out)
+    out.taken() == text.as_bytes() && status == end
 }
 
 /// The status of a report.
@@ -73,15 +80,19 @@ pub(crate) fn status_of(report: &str) -> Status {
     }
 }
 
+/// Whether a run over a folder writes its report.
+fn is_reported<R: Threads + Wait + Sync>(rt: &R, alloc: Global, row: &str) -> Result<bool, Fail> {
+    let (files, report) = files_and_report(row)?;
+    let files = folder(alloc, files)?;
+    Ok(is_checked(rt, alloc, files, report, status_of(report)))
+}
+
 #[test]
 fn reports_on_folders(rt: HostRuntime) -> Result<(), Fail> {
     let alloc = rt.alloc();
     for table in TABLES.iter().chain([&NO_SOURCE]) {
         for row in table.split("==\n") {
-            let (files, report) = files_and_report(row)?;
-            let (status, out) = checked(&rt, alloc, folder(alloc, files)?);
-            assert_eq!(rt; out.taken(), report.as_bytes(), "{row}");
-            assert_eq!(rt; status, status_of(report), "{row}");
+            assert!(rt; is_reported(&rt, alloc, row)?, "{row}");
         }
     }
     Ok(())
@@ -127,14 +138,24 @@ const SIZES: [(&[usize], &str, Status); 8] = [
     ),
 ];
 
+/// The first of the rows of sizes that is told otherwise.
+fn first_wrong_sizes<R: Threads + Wait + Sync>(
+    rt: &R,
+    alloc: Global,
+) -> Result<Option<usize>, Fail> {
+    for (at, row) in SIZES.iter().enumerate() {
+        let (sizes, report, end) = *row;
+        let files = spaces(alloc, sizes)?;
+        if !is_checked(rt, alloc, files, report, end) {
+            return Ok(Some(at));
+        }
+    }
+    Ok(None)
+}
+
 #[test]
 fn takes_bytes_up_to_the_limits(rt: HostRuntime) -> Result<(), Fail> {
-    let alloc = rt.alloc();
-    for (sizes, report, end) in SIZES {
-        let (status, out) = checked(&rt, alloc, spaces(alloc, sizes)?);
-        assert_eq!(rt; out.taken(), report.as_bytes(), "{report}");
-        assert_eq!(rt; status, end, "{report}");
-    }
+    assert_eq!(rt; first_wrong_sizes(&rt, rt.alloc())?, None);
     Ok(())
 }
 
@@ -167,42 +188,48 @@ const NO_COMMANDS: [&[&str]; 25] = [
     &["gen", "--workers=65", "1"],
 ];
 
+/// The first of these words that are not refused.
+fn first_taken<R: Threads + Wait + Sync>(rt: &R, alloc: Global) -> Result<Option<usize>, Fail> {
+    for (at, words) in NO_COMMANDS.iter().enumerate() {
+        if !is_written(rt, alloc, words, TWO_FILES, "usage\n", Status::Usage)? {
+            return Ok(Some(at));
+        }
+    }
+    Ok(None)
+}
+
 #[test]
 fn refuses_words_that_are_no_command(rt: HostRuntime) -> Result<(), Fail> {
-    let alloc = rt.alloc();
-    for words in NO_COMMANDS {
-        let mut tree = PlainTree::new(folder(alloc, TWO_FILES)?);
-        let mut out = PlainSink::new(alloc);
-        let status = run(&rt, alloc, words, &mut tree, &mut out);
-        assert_eq!(rt; status, Status::Usage);
-        assert_eq!(rt; out.taken(), b"usage\n".as_slice());
-    }
+    assert_eq!(rt; first_taken(&rt, rt.alloc())?, None);
     Ok(())
 }
 
-/// What is written by a command over files of whose tree this call fails, and how the run ends.
-fn failing_at<R: Threads + Wait + Sync>(
+/// Whether a command over files of whose tree this call fails writes this text, and ends so.
+fn ends_failing_at<R: Threads + Wait + Sync>(
     rt: &R,
     alloc: Global,
     words: &[&str],
-    files: Files,
     call: u64,
-) -> Result<(Status, PlainSink), Fail> {
+    text: &str,
+    end: Status,
+) -> Result<bool, Fail> {
+    let (files, _) = files_and_report(FOUR_FILES)?;
     let mut tree = MemTree::new(folder(alloc, files)?, vec![in alloc; call]?);
     let mut out = PlainSink::new(alloc);
     let status = run(rt, alloc, words, &mut tree, &mut out);
-    Ok((status, out))
+    Ok(out.taken() == text.as_bytes() && status == end)
 }
 
 #[test]
 fn each_call_of_the_tree_may_fail(rt: HostRuntime) -> Result<(), Fail> {
     let alloc = rt.alloc();
-    let (files, _) = files_and_report(FOUR_FILES)?;
     // The paths are listed, and each file is read.
     for call in 0..5u64 {
-        let (status, out) = failing_at(&rt, alloc, &["check", "x"], files, call)?;
-        assert_eq!(rt; status, Status::ReadFault);
-        assert!(rt; out.taken().is_empty());
+        let words = ["check", "x"];
+        assert!(rt;
+            ends_failing_at(&rt, alloc, &words, call, "", Status::ReadFault)?,
+            "{call}"
+        );
     }
     // No other call is made, and none at all for a project.
     let rows: [(&[&str], u64, &str); 3] = [
@@ -211,30 +238,36 @@ fn each_call_of_the_tree_may_fail(rt: HostRuntime) -> Result<(), Fail> {
         (&["gen", "--workers=2", "12"], 0, "ok files 12 types 12\n"),
     ];
     for (words, call, report) in rows {
-        let (status, out) = failing_at(&rt, alloc, words, files, call)?;
-        assert_eq!(rt; out.taken(), report.as_bytes());
-        assert_eq!(rt; status, Status::Clean);
+        assert!(rt;
+            ends_failing_at(&rt, alloc, words, call, report, Status::Clean)?,
+            "{report}"
+        );
     }
     Ok(())
+}
+
+/// Whether a run whose sink fails at a put, and takes so many bytes of it, writes this text, and ends so.
+fn is_cut<R: Threads + Wait + Sync>(
+    rt: &R,
+    alloc: Global,
+    cut: (u64, u64),
+    text: &str,
+    end: Status,
+) -> Result<bool, Fail> {
+    let mut tree = PlainTree::new(folder(alloc, "-- A.java\nclass A extends B {}\n")?);
+    let mut out = CutSink::new(alloc, vec![in alloc; cut]?);
+    let status = run(rt, alloc, &["check", "x"], &mut tree, &mut out);
+    Ok(out.taken() == text.as_bytes() && status == end)
 }
 
 #[test]
 fn no_put_follows_one_that_failed(rt: HostRuntime) -> Result<(), Fail> {
     let alloc = rt.alloc();
     let report = "A.java:1:17: E20 cannot find type B\nerrors 1\n";
+    assert!(rt; is_cut(&rt, alloc, (0, 0), "", Status::WriteFault)?);
+    assert!(rt; is_cut(&rt, alloc, (0, 7), "A.java:", Status::WriteFault)?);
     // The first put is the only one, so a cut of the second changes nothing.
-    let rows: [((u64, u64), &str, Status); 3] = [
-        ((0, 0), "", Status::WriteFault),
-        ((0, 7), "A.java:", Status::WriteFault),
-        ((1, 0), report, Status::Found),
-    ];
-    for (cut, written, end) in rows {
-        let mut tree = PlainTree::new(folder(alloc, "-- A.java\nclass A extends B {}\n")?);
-        let mut out = CutSink::new(alloc, vec![in alloc; cut]?);
-        let status = run(&rt, alloc, &["check", "x"], &mut tree, &mut out);
-        assert_eq!(rt; out.taken(), written.as_bytes());
-        assert_eq!(rt; status, end);
-    }
+    assert!(rt; is_cut(&rt, alloc, (1, 0), report, Status::Found)?);
     Ok(())
 }
 
@@ -263,31 +296,34 @@ fn fills_rooms<R: Threads + Wait + Sync>(
     Ok(())
 }
 
+/// The text of a folder with a file that is one byte too long.
+fn long_file(alloc: Global) -> Result<String, Fail> {
+    let mut text = String::from_str(alloc, "-- A.java\n")?;
+    for _ in 0..MEBIBYTE + 1 {
+        text.push(' ')?;
+    }
+    Ok(text)
+}
+
 #[test]
 fn the_sink_may_have_any_room(rt: HostRuntime) -> Result<(), Fail> {
     let alloc = rt.alloc();
-    let mut long = String::from_str(alloc, "-- A.java\n")?;
-    for _ in 0..MEBIBYTE + 1 {
-        long.push(' ')?;
-    }
-    let rows: [(Files, &[&str], &str, Status); 4] = [
-        (TWO_FILES, &["print", "x"], "usage\n", Status::Usage),
-        (TWO_FILES, &["graph", "x"], GRAPH_OF_TWO, Status::Clean),
-        (
-            TWO_FILES,
-            &["check", "x"],
-            "ok files 2 types 2\n",
-            Status::Clean,
-        ),
-        (
-            long.as_str(),
-            &["check", "x"],
-            "limit file bytes\n",
-            Status::Limit(Which::FileBytes),
-        ),
+    let rows: [(&[&str], &str, Status); 3] = [
+        (&["print", "x"], "usage\n", Status::Usage),
+        (&["graph", "x"], GRAPH_OF_TWO, Status::Clean),
+        (&["check", "x"], "ok files 2 types 2\n", Status::Clean),
     ];
-    for (files, words, whole, end) in rows {
-        fills_rooms(&rt, alloc, files, words, whole, end)?;
+    for (words, whole, end) in rows {
+        fills_rooms(&rt, alloc, TWO_FILES, words, whole, end)?;
     }
-    Ok(())
+    let long = long_file(alloc)?;
+    let end = Status::Limit(Which::FileBytes);
+    fills_rooms(
+        &rt,
+        alloc,
+        long.as_str(),
+        &["check", "x"],
+        "limit file bytes\n",
+        end,
+    )
 }

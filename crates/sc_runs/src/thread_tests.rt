@@ -25,7 +25,7 @@ const WORKERS: [&str; 5] = [
 const TIMES: u32 = 100;
 
 /// What these words write of a folder, and how the run ends.
-pub(crate) fn written<R: Threads + Wait + Sync>(
+fn written<R: Threads + Wait + Sync>(
     rt: &R,
     alloc: Global,
     words: &[&str],
@@ -37,6 +37,19 @@ pub(crate) fn written<R: Threads + Wait + Sync>(
     Ok((status, out))
 }
 
+/// Whether these words write this text of a folder, and the run ends so.
+pub(crate) fn is_written<R: Threads + Wait + Sync>(
+    rt: &R,
+    alloc: Global,
+    words: &[&str],
+    files: Files,
+    text: &str,
+    end: Status,
+) -> Result<bool, Fail> {
+    let (status, out) = written(rt, alloc, words, files)?;
+    Ok(out.taken() == text.as_bytes() && status == end)
+}
+
 /// Whether each number of workers writes the report of a folder, each time.
 fn is_reported_by_all<R: Threads + Wait + Sync>(
     rt: &R,
@@ -46,8 +59,8 @@ fn is_reported_by_all<R: Threads + Wait + Sync>(
     let (files, report) = files_and_report(row)?;
     for workers in WORKERS {
         for _time in 0..TIMES {
-            let (status, out) = written(rt, alloc, &["check", workers, "x"], files)?;
-            if out.taken() != report.as_bytes() || status != status_of(report) {
+            let words = ["check", workers, "x"];
+            if !is_written(rt, alloc, &words, files, report, status_of(report))? {
                 return Ok(false);
             }
         }
@@ -112,22 +125,30 @@ impl Gate for Meeting {
     fn answered(&self, _unit: u32, _step: u64) {}
 }
 
+/// Whether two workers that go through this gate write the report of a folder, and hand their outcome back.
+fn is_reported_through<R: Threads + Wait + Sync>(
+    rt: &R,
+    alloc: Global,
+    row: &str,
+    meeting: &Meeting,
+) -> Result<bool, Fail> {
+    let (files, report) = files_and_report(row)?;
+    let mut tree = PlainTree::new(folder(alloc, files)?);
+    let mut out = PlainSink::new(alloc);
+    let words = ["check", "--workers=2", "x"];
+    let ran = run_gated(rt, alloc, &words, &mut tree, &mut out, meeting);
+    let is_written = out.taken() == report.as_bytes() && ran.status == status_of(report);
+    Ok(is_written && ran.outcome.is_some())
+}
+
 #[test]
 fn two_workers_check_at_once(rt: HostRuntime) -> Result<(), Fail> {
-    let alloc = rt.alloc();
-    let (files, report) = files_and_report(FOUR_FILES)?;
     let meeting = Meeting {
         first: AtomicU64::new(0),
         second: AtomicU64::new(0),
         alone: AtomicU64::new(0),
     };
-    let mut tree = PlainTree::new(folder(alloc, files)?);
-    let mut out = PlainSink::new(alloc);
-    let words = ["check", "--workers=2", "x"];
-    let ran = run_gated(&rt, alloc, &words, &mut tree, &mut out, &meeting);
-    assert_eq!(rt; out.taken(), report.as_bytes());
-    assert_eq!(rt; ran.status, Status::Clean);
-    assert!(rt; ran.outcome.is_some());
+    assert!(rt; is_reported_through(&rt, rt.alloc(), FOUR_FILES, &meeting)?);
     assert_eq!(rt; meeting.alone.load(Ordering::SeqCst), 0);
     Ok(())
 }

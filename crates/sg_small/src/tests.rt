@@ -38,7 +38,7 @@ fn looking<'a>(looks: &'a [u32], gives: &'a [u32]) -> Header<'a> {
 }
 
 /// What came of a type's row: whether it was closed, how many targets it has, and the least of them.
-#[derive(Clone, Copy, Debug, PartialEq)]
+#[derive(Clone, Copy, PartialEq)]
 struct Row {
     closed: bool,
     targets: usize,
@@ -46,7 +46,7 @@ struct Row {
 }
 
 /// What came of a run: its phase, the rows of the three types, and the items that it shows, which are three at most.
-#[derive(Clone, Copy, Debug, PartialEq)]
+#[derive(Clone, Copy, PartialEq)]
 struct Outcome {
     phase: Phase,
     rows: (Row, Row, Row),
@@ -273,19 +273,37 @@ fn outcome_of(core: &Core<Numbers, u64>) -> Result<Outcome, AllocError> {
     })
 }
 
+/// What came of a run, if there was one.
+fn outcome_in(ran: &Option<Core<Numbers, u64>>) -> Result<Option<Outcome>, AllocError> {
+    match ran {
+        Some(core) => Ok(Some(outcome_of(core)?)),
+        None => Ok(None),
+    }
+}
+
 /// What comes of a run of the readers of these headers, in this order.
 fn ending(
     alloc: Global,
     headers: [Header<'_>; 3],
     order: &[u32],
 ) -> Result<Option<Outcome>, AllocError> {
-    match served(alloc, headers, order)? {
-        Some(core) => {
-            let outcome = outcome_of(&core)?;
-            Ok(Some(outcome))
+    let ran = served(alloc, headers, order)?;
+    outcome_in(&ran)
+}
+
+/// Whether this is what comes of each run of the readers of these headers, in each of these orders.
+fn ends_so(
+    alloc: Global,
+    headers: [Header<'_>; 3],
+    orders: &[&[u32]],
+    want: Outcome,
+) -> Result<bool, AllocError> {
+    for order in orders {
+        if ending(alloc, headers, order)? != Some(want) {
+            return Ok(false);
         }
-        None => Ok(None),
     }
+    Ok(true)
 }
 
 #[test]
@@ -297,9 +315,7 @@ fn two_types_above_one_another_are_closed(rt: HostRuntime) -> Result<(), Fail> {
         shown: (None, None, None),
     };
     let orders: [&[u32]; 3] = [&[], &[1, 0, 2, 1, 0], &[2, 2, 1, 1, 1]];
-    for order in orders {
-        assert_eq!(rt; ending(rt.alloc(), headers, order)?, Some(want));
-    }
+    assert!(rt; ends_so(rt.alloc(), headers, &orders, want)?);
     Ok(())
 }
 
@@ -316,9 +332,7 @@ fn a_header_waits_for_its_own_row_through_another(rt: HostRuntime) -> Result<(),
         shown: (Some(waits(0, FIRST, 0)), None, None),
     };
     let orders: [&[u32]; 3] = [&[], &[0, 0, 1, 1, 0, 0], &[2, 1, 0, 2, 1, 0, 2, 1, 0]];
-    for order in orders {
-        assert_eq!(rt; ending(rt.alloc(), headers, order)?, Some(want));
-    }
+    assert!(rt; ends_so(rt.alloc(), headers, &orders, want)?);
     Ok(())
 }
 
@@ -335,9 +349,7 @@ fn headers_in_ranks_are_closed(rt: HostRuntime) -> Result<(), Fail> {
         shown: (None, None, None),
     };
     let orders: [&[u32]; 3] = [&[], &[0, 0, 1, 1, 2, 2, 9], &[2, 2, 1, 0, 1, 0, 1, 0]];
-    for order in orders {
-        assert_eq!(rt; ending(rt.alloc(), headers, order)?, Some(want));
-    }
+    assert!(rt; ends_so(rt.alloc(), headers, &orders, want)?);
     Ok(())
 }
 
@@ -350,9 +362,7 @@ fn headers_that_look_at_one_another_are_stuck(rt: HostRuntime) -> Result<(), Fai
         shown: (Some(waits(0, SECOND, 1)), Some(waits(1, FIRST, 0)), None),
     };
     let orders: [&[u32]; 3] = [&[], &[1, 1, 0, 0, 2], &[2, 2, 0, 1, 0, 1]];
-    for order in orders {
-        assert_eq!(rt; ending(rt.alloc(), headers, order)?, Some(want));
-    }
+    assert!(rt; ends_so(rt.alloc(), headers, &orders, want)?);
     Ok(())
 }
 
@@ -365,8 +375,6 @@ fn a_header_that_looks_at_its_own_row_waits(rt: HostRuntime) -> Result<(), Fail>
         shown: (Some(waits(0, FIRST, 0)), None, None),
     };
     let orders: [&[u32]; 3] = [&[], &[0, 0, 2, 1], &[2, 1, 2, 1, 1, 0]];
-    for order in orders {
-        assert_eq!(rt; ending(rt.alloc(), headers, order)?, Some(want));
-    }
+    assert!(rt; ends_so(rt.alloc(), headers, &orders, want)?);
     Ok(())
 }

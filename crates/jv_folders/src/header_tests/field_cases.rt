@@ -1,7 +1,8 @@
 //! Which fields types have under a name (JLS 8.2, 8.3, 9.3).
 
-use crate::header_tests::reading::{Reading, joined, read_folder};
+use crate::header_tests::reading::{Reading, is_read};
 use crate::sources::Files;
+use std::alloc::Global;
 use std::test::Fail;
 
 /// A folder, a name, and for each type the field that it means there.
@@ -76,12 +77,19 @@ const FIELDS: [FieldCase; 7] = [
     ),
 ];
 
+/// The first of these folders in whose types the name means other fields.
+fn first_wrong(alloc: Global, cases: &[FieldCase]) -> Result<Option<usize>, Fail> {
+    for (at, case) in cases.iter().enumerate() {
+        let (files, name, lines) = *case;
+        if !is_read(alloc, files, Reading::Fields(name), lines)? {
+            return Ok(Some(at));
+        }
+    }
+    Ok(None)
+}
+
 #[test]
 fn types_have_the_fields_that_they_inherit(rt: HostRuntime) -> Result<(), Fail> {
-    for (files, name, lines) in FIELDS {
-        let found = read_folder(rt.alloc(), files, Reading::Fields(name))?;
-        let wanted = joined(rt.alloc(), lines)?;
-        assert_eq!(rt; found.as_str(), wanted.as_str());
-    }
+    assert_eq!(rt; first_wrong(rt.alloc(), &FIELDS)?, None);
     Ok(())
 }

@@ -60,8 +60,42 @@ impl Folder<'_> {
         Ok(())
     }
 
-    /// What the imports of a file give.
+    /// The query whose answer the imports of a file lack; none where they can be read.
+    fn import_query(
+        &self,
+        oracle: &Oracle,
+        file: u32,
+        unit: &Unit,
+    ) -> Result<Option<Query<JavaPred>>, Fail> {
+        if file >= MANY {
+            return Err(Fail::new("no such file"));
+        }
+        match resolve_imports(self.alloc, self.layout, self.names, oracle, file, unit)? {
+            Known::Is(_) => Ok(None),
+            Known::Need(query) => Ok(Some(query)),
+        }
+    }
+
+    /// What the imports of a file give by these answers.
     #[tactic(auto, using(jv_header::proofs::ImportsSoFar::imports_so_far_new))]
+    fn read_imports(&self, oracle: &Oracle, file: u32, unit: &Unit) -> Result<FileImports, Fail> {
+        if file >= MANY {
+            return Err(Fail::new("no such file"));
+        }
+        let mut progress = ImportsProgress::new(self.alloc);
+        let found = read_imports(
+            self.alloc,
+            self.layout,
+            self.names,
+            oracle,
+            file,
+            unit,
+            &mut progress,
+        )?;
+        Ok(found)
+    }
+
+    /// What the imports of a file give.
     pub fn imports(
         &self,
         graph: &Graph<JavaDatum>,
@@ -70,23 +104,9 @@ impl Folder<'_> {
     ) -> Result<FileImports, Fail> {
         let mut oracle = Oracle::new(self.alloc);
         for _ in 0..MANY {
-            if file >= MANY {
-                return Err(Fail::new("no such file"));
-            }
-            match resolve_imports(self.alloc, self.layout, self.names, &oracle, file, unit)? {
-                Known::Is(_) => {
-                    let mut progress = ImportsProgress::new(self.alloc);
-                    return Ok(read_imports(
-                        self.alloc,
-                        self.layout,
-                        self.names,
-                        &oracle,
-                        file,
-                        unit,
-                        &mut progress,
-                    )?);
-                }
-                Known::Need(query) => self.put_answer(graph, &mut oracle, query)?,
+            match self.import_query(&oracle, file, unit)? {
+                Some(query) => self.put_answer(graph, &mut oracle, query)?,
+                None => return self.read_imports(&oracle, file, unit),
             }
         }
         Err(Fail::new("too many queries"))

@@ -1,7 +1,7 @@
 //! What imports bring.
 
 use crate::header_tests::Case;
-use crate::header_tests::reading::{Reading, joined, read_folder};
+use crate::header_tests::reading::first_wrong;
 use std::test::Fail;
 
 /// Single imports: of another type, twice of one name, of one name with a type of the file, of the file's own type, and of what is
@@ -126,11 +126,7 @@ const SINGLE_IMPORTS: [Case; 7] = [
 
 #[test]
 fn single_imports_bring_types(rt: HostRuntime) -> Result<(), Fail> {
-    for (files, lines) in SINGLE_IMPORTS {
-        let found = read_folder(rt.alloc(), files, Reading::Headers(lines))?;
-        let wanted = joined(rt.alloc(), lines)?;
-        assert_eq!(rt; found.as_str(), wanted.as_str());
-    }
+    assert_eq!(rt; first_wrong(rt.alloc(), &SINGLE_IMPORTS)?, None);
     Ok(())
 }
 
@@ -213,11 +209,7 @@ const IMPORT_ACCESS: [Case; 3] = [
 
 #[test]
 fn imports_see_accessible_types(rt: HostRuntime) -> Result<(), Fail> {
-    for (files, lines) in IMPORT_ACCESS {
-        let found = read_folder(rt.alloc(), files, Reading::Headers(lines))?;
-        let wanted = joined(rt.alloc(), lines)?;
-        assert_eq!(rt; found.as_str(), wanted.as_str());
-    }
+    assert_eq!(rt; first_wrong(rt.alloc(), &IMPORT_ACCESS)?, None);
     Ok(())
 }
 
@@ -345,10 +337,6 @@ const IMPORTS_ON_DEMAND: [Case; 5] = [
 
 #[test]
 fn imports_on_demand_bring_what_nothing_hides(rt: HostRuntime) -> Result<(), Fail> {
-    for (files, lines) in IMPORTS_ON_DEMAND {
-        let found = read_folder(rt.alloc(), files, Reading::Headers(lines))?;
-        let wanted = joined(rt.alloc(), lines)?;
-        assert_eq!(rt; found.as_str(), wanted.as_str());
-    }
+    assert_eq!(rt; first_wrong(rt.alloc(), &IMPORTS_ON_DEMAND)?, None);
     Ok(())
 }

@@ -1,7 +1,7 @@
 //! What names mean in headers.
 
 use crate::header_tests::Case;
-use crate::header_tests::reading::{Reading, joined, read_folder};
+use crate::header_tests::reading::first_wrong;
 use std::test::Fail;
 
 /// Names with dots: by types and their members, by packages, and where a type stands before a package of its name (JLS 6.4.2, 6.5.5.2).
@@ -139,11 +139,7 @@ const DOTTED_NAMES: [Case; 6] = [
 
 #[test]
 fn dotted_names_go_by_types_before_packages(rt: HostRuntime) -> Result<(), Fail> {
-    for (files, lines) in DOTTED_NAMES {
-        let found = read_folder(rt.alloc(), files, Reading::Headers(lines))?;
-        let wanted = joined(rt.alloc(), lines)?;
-        assert_eq!(rt; found.as_str(), wanted.as_str());
-    }
+    assert_eq!(rt; first_wrong(rt.alloc(), &DOTTED_NAMES)?, None);
     Ok(())
 }
 
@@ -307,10 +303,6 @@ const ENCLOSING_BODIES: [Case; 6] = [
 
 #[test]
 fn enclosing_bodies_have_members(rt: HostRuntime) -> Result<(), Fail> {
-    for (files, lines) in ENCLOSING_BODIES {
-        let found = read_folder(rt.alloc(), files, Reading::Headers(lines))?;
-        let wanted = joined(rt.alloc(), lines)?;
-        assert_eq!(rt; found.as_str(), wanted.as_str());
-    }
+    assert_eq!(rt; first_wrong(rt.alloc(), &ENCLOSING_BODIES)?, None);
     Ok(())
 }

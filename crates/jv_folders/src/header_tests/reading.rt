@@ -1,5 +1,6 @@
 //! What is read of a whole folder, from its sources. The replies are the answers of a finished graph.
 
+use crate::header_tests::Case;
 use crate::header_tests::folder::Folder;
 use crate::header_tests::graph::graph_of;
 use crate::sources::{Files, laid_out, trees};
@@ -79,7 +80,7 @@ fn read_layout(
 }
 
 /// What is read of the files of a folder, as lines.
-pub fn read_folder(alloc: Global, files: Files, what: Reading) -> Result<String, Fail> {
+fn read_folder(alloc: Global, files: Files, what: Reading) -> Result<String, Fail> {
     let mut names = Names::new(alloc);
     let units = trees(alloc, files, &mut names)?;
     let layout = laid_out(alloc, &names, &units)?;
@@ -87,10 +88,28 @@ pub fn read_folder(alloc: Global, files: Files, what: Reading) -> Result<String,
 }
 
 /// Lines as one text.
-pub fn joined(alloc: Global, lines: &[&str]) -> Result<String, Fail> {
+fn joined(alloc: Global, lines: &[&str]) -> Result<String, Fail> {
     let mut text = String::new(alloc);
     for line in lines {
         writeln!(text, "{}", line)?;
     }
     Ok(text)
+}
+
+/// Whether this is what is read of a folder, line by line.
+pub fn is_read(alloc: Global, files: Files, what: Reading, lines: &[&str]) -> Result<bool, Fail> {
+    let found = read_folder(alloc, files, what)?;
+    let wanted = joined(alloc, lines)?;
+    Ok(found.as_str() == wanted.as_str())
+}
+
+/// The first of these folders whose imports and headers give other lines.
+pub fn first_wrong(alloc: Global, cases: &[Case]) -> Result<Option<usize>, Fail> {
+    for (at, case) in cases.iter().enumerate() {
+        let (files, lines) = *case;
+        if !is_read(alloc, files, Reading::Headers(lines), lines)? {
+            return Ok(Some(at));
+        }
+    }
+    Ok(None)
 }

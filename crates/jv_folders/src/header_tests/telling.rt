@@ -2,6 +2,7 @@
 
 use crate::header_tests::folder::{Folder, MANY};
 use crate::header_tests::graph::add_edge;
+use jv_header::{FileImports, Header};
 use jv_instance::{JavaDatum, labels};
 use jv_tree::{TypeDecl, Unit};
 use sg_base::{Graph, Scope};
@@ -18,7 +19,41 @@ fn is_among(lines: &[&str], line: &str) -> bool {
 }
 
 impl Folder<'_> {
-    /// Adds the edges that the imports of a file give, with their lines and diagnostics.
+    /// Adds the edge from a file that an import gives, with its line.
+    fn add_import(
+        &self,
+        text: &mut String,
+        graph: &mut Graph<JavaDatum>,
+        file: u32,
+        label: u8,
+        to: Scope,
+    ) -> Result<(), Fail> {
+        if file >= MANY {
+            return Err(Fail::new("no such file"));
+        }
+        let from = self.layout.file_scope(file);
+        add_edge(graph, from, label, to)?;
+        self.add_edge_lines(text, from, label, &[to])
+    }
+
+    /// Adds the edges that imports of a file give, with their lines and diagnostics.
+    fn add_imports(
+        &self,
+        text: &mut String,
+        graph: &mut Graph<JavaDatum>,
+        file: u32,
+        found: &FileImports,
+    ) -> Result<(), Fail> {
+        for (_, to) in found.singles() {
+            self.add_import(text, graph, file, labels::SIMP, *to)?;
+        }
+        for to in found.on_demand() {
+            self.add_import(text, graph, file, labels::ODI, *to)?;
+        }
+        self.add_diags(text, found.diags.as_slice())
+    }
+
+    /// Adds what the imports of a file give.
     fn add_file(
         &self,
         text: &mut String,
@@ -27,19 +62,7 @@ impl Folder<'_> {
         unit: &Unit,
     ) -> Result<(), Fail> {
         let found = self.imports(graph, file, unit)?;
-        if file >= MANY {
-            return Err(Fail::new("no such file"));
-        }
-        let from = self.layout.file_scope(file);
-        for (_, to) in found.singles() {
-            add_edge(graph, from, labels::SIMP, *to)?;
-            self.add_edge_lines(text, from, labels::SIMP, &[*to])?;
-        }
-        for to in found.on_demand() {
-            add_edge(graph, from, labels::ODI, *to)?;
-            self.add_edge_lines(text, from, labels::ODI, &[*to])?;
-        }
-        self.add_diags(text, found.into_diags().as_slice())
+        self.add_imports(text, graph, file, &found)
     }
 
     /// Adds the imports of all files.
@@ -83,7 +106,35 @@ impl Folder<'_> {
         Ok(())
     }
 
+    /// Adds the diagnostics of the dependence of a type on itself.
+    fn add_dependence(
+        &self,
+        text: &mut String,
+        graph: &Graph<JavaDatum>,
+        decl: &TypeDecl,
+        ty: Scope,
+        row: &[Scope],
+    ) -> Result<(), Fail> {
+        let diags = self.dependence(graph, decl, ty, row)?;
+        self.add_diags(text, diags.as_slice())
+    }
+
     /// Adds the lines of the supertypes of a type, and the diagnostics of its header and of its dependence on itself.
+    fn add_found(
+        &self,
+        text: &mut String,
+        graph: &Graph<JavaDatum>,
+        decl: &TypeDecl,
+        ty: Scope,
+        header: &Header,
+    ) -> Result<(), Fail> {
+        let row = header.row.as_slice();
+        self.add_edge_lines(text, ty, labels::EXT, row)?;
+        self.add_diags(text, header.diags.as_slice())?;
+        self.add_dependence(text, graph, decl, ty, row)
+    }
+
+    /// Adds what the header of a type gives.
     fn add_header(
         &self,
         text: &mut String,
@@ -92,11 +143,7 @@ impl Folder<'_> {
         ty: Scope,
     ) -> Result<(), Fail> {
         let header = self.header(graph, decl, ty)?;
-        let row = header.row.as_slice();
-        self.add_edge_lines(text, ty, labels::EXT, row)?;
-        self.add_diags(text, header.diags.as_slice())?;
-        let diags = self.dependence(graph, decl, ty, row)?;
-        self.add_diags(text, diags.as_slice())
+        self.add_found(text, graph, decl, ty, &header)
     }
 
     /// Adds the headers of all types behind the prelude's two.

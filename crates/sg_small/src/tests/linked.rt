@@ -152,6 +152,14 @@ fn came_to(core: &Core<Numbers, u64>, phase: Phase, count: u32) -> bool {
     core.phase() == phase && core.units() == count && core.result(count).is_none()
 }
 
+/// Whether there was a run, and it came to this.
+fn ran_to(ran: &Option<Core<Numbers, u64>>, phase: Phase, count: u32) -> bool {
+    match ran {
+        Some(core) => came_to(core, phase, count),
+        None => false,
+    }
+}
+
 /// Whether a run of so many links, one at a time, came to this.
 fn alone_comes_to(
     alloc: Global,
@@ -159,10 +167,8 @@ fn alone_comes_to(
     phase: Phase,
     count: u32,
 ) -> Result<bool, AllocError> {
-    match alone(alloc, shape, count)? {
-        Some(core) => Ok(came_to(&core, phase, count)),
-        None => Ok(false),
-    }
+    let ran = alone(alloc, shape, count)?;
+    Ok(ran_to(&ran, phase, count))
 }
 
 /// Whether a run of so many links by workers came to this.
@@ -176,10 +182,8 @@ fn together_comes_to<Rt: Threads + Wait + Sync>(
 ) -> Result<bool, AllocError>
     requires { 1 ≤ workers }
 {
-    match together(rt, alloc, shape, count, workers)? {
-        Some(core) => Ok(came_to(&core, phase, count)),
-        None => Ok(false),
-    }
+    let ran = together(rt, alloc, shape, count, workers)?;
+    Ok(ran_to(&ran, phase, count))
 }
 
 #[test]
