@@ -1,4 +1,4 @@
-ghost use Rattle.std.specs.Prelude.{◌≡◌, ◌≤◌, ◌⊎◌, ℕ, codes, IfSome, None, Option, map};
+ghost use Rattle.std.specs.Prelude.{◌≡◌, ◌≤◌, ◌⊎◌, ℕ, codes, false, true, IfSome, None, Option, map};
 ghost use Rattle.sc_app.specs.Causes.{EndsUnlessFailed, TellsLimits};
 ghost use Rattle.sc_app.specs.declared.command.Command.{Command as CommandOf};
 ghost use Rattle.sc_app.specs.Command.{Asks, IsCommand};
@@ -146,20 +146,28 @@ fn put_report<S: Sink>(out: &mut S, report: Report) -> Ran
     }
 }
 
+/// Whether a status is that of a report.
+fn is_report(status: Status) -> bool
+    ensures report { result ≡ true → IsNoReport status → ⊥ }
+    ensures none { result ≡ false → IsNoReport status }
+{
+    match status {
+        Status::Clean => true,
+        Status::Found => true,
+        Status::Usage => false,
+        Status::ReadFault => false,
+        Status::WriteFault => false,
+        Status::Limit(_) => false,
+        Status::OutOfMemory => false,
+    }
+}
+
 /// The outcome of a report, where all of it was written.
 fn outcome_of_written(status: Status, outcome: Option<Outcome>) -> Option<Outcome>
     ensures fault { IsNoReport status → result ≡ None }
     ensures whole { (IsNoReport status → ⊥) → result ≡ outcome }
 {
-    match status {
-        Status::Clean => outcome,
-        Status::Found => outcome,
-        Status::Usage => None,
-        Status::ReadFault => None,
-        Status::WriteFault => None,
-        Status::Limit(_) => None,
-        Status::OutOfMemory => None,
-    }
+    if is_report(status) { outcome } else { None }
 }
 
 /// Writes bytes, and gives their status, or that of the fault.
