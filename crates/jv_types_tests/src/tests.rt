@@ -7,6 +7,9 @@
 //! final class Coin implements Named {}
 //! final class String {}               interface Round {}
 //! ```
+//!
+//! A row is a line of a text, and a line that begins with a hash says what those behind it are about. A class is written in small letters, with its
+//! brackets.
 
 mod conversions;
 mod operators;
@@ -33,104 +36,78 @@ const TITLED: Scope = Scope { unit: 7, serial: 7 };
 
 const ROUND: Scope = Scope { unit: 8, serial: 7 };
 
-pub(crate) fn plain(base: TypeBase) -> Ty {
-    Ty { base, dims: 0 }
+/// The first word of a text, and what follows it.
+pub(crate) fn first_word(text: &str) -> (&str, &str) {
+    match text.split_once(' ') {
+        Some(parts) => parts,
+        None => (text, ""),
+    }
 }
 
-/// A type without a class, with so many pairs of brackets.
-fn other(base: TypeBase, dims: u8) -> Side<'static> {
-    Side {
+/// Whether a line is a row.
+pub(crate) fn is_row(line: &str) -> bool {
+    !line.starts_with('#')
+}
+
+/// A base that is no class.
+fn plain(word: &str) -> Option<TypeBase> {
+    match word {
+        "boolean" => Some(TypeBase::Boolean),
+        "char" => Some(TypeBase::Char),
+        "int" => Some(TypeBase::Int),
+        "long" => Some(TypeBase::Long),
+        "null" => Some(TypeBase::Null),
+        "void" => Some(TypeBase::Void),
+        "bad" => Some(TypeBase::Bad),
+        _ => None,
+    }
+}
+
+/// The supertypes of a class or an interface, itself among them.
+fn supertypes(word: &str) -> &'static [Scope] {
+    match word {
+        "object" => &[OBJECT],
+        "string" => &[STRING, OBJECT],
+        "animal" => &[ANIMAL, OBJECT],
+        "dog" => &[DOG, ANIMAL, NAMED, OBJECT],
+        "stone" => &[STONE, OBJECT],
+        "coin" => &[COIN, NAMED, OBJECT],
+        "named" => &[NAMED, OBJECT],
+        "titled" => &[TITLED, NAMED, OBJECT],
+        "round" => &[ROUND, OBJECT],
+        _ => &[],
+    }
+}
+
+/// What is known of a base.
+fn with_base(word: &str, dims: u8) -> Option<Side<'static>> {
+    let up = supertypes(word);
+    let base = match up.first() {
+        Some(class) => TypeBase::Class(*class),
+        None => plain(word)?,
+    };
+    Some(Side {
         ty: Ty { base, dims },
-        up: &[],
-        interface: false,
-        is_final: false,
-    }
-}
-
-pub(crate) fn boolean(dims: u8) -> Side<'static> {
-    other(TypeBase::Boolean, dims)
-}
-
-pub(crate) fn char(dims: u8) -> Side<'static> {
-    other(TypeBase::Char, dims)
-}
-
-pub(crate) fn int(dims: u8) -> Side<'static> {
-    other(TypeBase::Int, dims)
-}
-
-pub(crate) fn long(dims: u8) -> Side<'static> {
-    other(TypeBase::Long, dims)
-}
-
-pub(crate) fn null() -> Side<'static> {
-    other(TypeBase::Null, 0)
-}
-
-pub(crate) fn void() -> Side<'static> {
-    other(TypeBase::Void, 0)
-}
-
-pub(crate) fn bad(dims: u8) -> Side<'static> {
-    other(TypeBase::Bad, dims)
-}
-
-fn class(class: Scope, dims: u8, up: &'static [Scope], is_final: bool) -> Side<'static> {
-    Side {
-        ty: Ty {
-            base: TypeBase::Class(class),
-            dims,
-        },
         up,
-        interface: false,
-        is_final,
+        interface: matches!(word, "named" | "titled" | "round"),
+        is_final: matches!(word, "string" | "coin"),
+    })
+}
+
+/// How many pairs of brackets there are, behind the first of them.
+fn dims_of(rest: &str) -> Option<u8> {
+    match rest {
+        "]" => Some(1),
+        "][]" => Some(2),
+        "][][]" => Some(3),
+        _ => None,
     }
 }
 
-fn interface(interface: Scope, dims: u8, up: &'static [Scope]) -> Side<'static> {
-    Side {
-        ty: Ty {
-            base: TypeBase::Class(interface),
-            dims,
-        },
-        up,
-        interface: true,
-        is_final: false,
+/// What is known of a type.
+pub(crate) fn side(word: &str) -> Option<Side<'static>> {
+    match word.split_once('[') {
+        Some((base, rest)) => with_base(base, dims_of(rest)?),
+        None => with_base(word, 0),
     }
-}
-
-pub(crate) fn object(dims: u8) -> Side<'static> {
-    class(OBJECT, dims, &[OBJECT], false)
-}
-
-pub(crate) fn string(dims: u8) -> Side<'static> {
-    class(STRING, dims, &[STRING, OBJECT], true)
-}
-
-pub(crate) fn animal(dims: u8) -> Side<'static> {
-    class(ANIMAL, dims, &[ANIMAL, OBJECT], false)
-}
-
-pub(crate) fn dog(dims: u8) -> Side<'static> {
-    class(DOG, dims, &[DOG, ANIMAL, NAMED, OBJECT], false)
-}
-
-pub(crate) fn stone(dims: u8) -> Side<'static> {
-    class(STONE, dims, &[STONE, OBJECT], false)
-}
-
-pub(crate) fn coin(dims: u8) -> Side<'static> {
-    class(COIN, dims, &[COIN, NAMED, OBJECT], true)
-}
-
-pub(crate) fn named(dims: u8) -> Side<'static> {
-    interface(NAMED, dims, &[NAMED, OBJECT])
-}
-
-pub(crate) fn titled(dims: u8) -> Side<'static> {
-    interface(TITLED, dims, &[TITLED, NAMED, OBJECT])
-}
-
-pub(crate) fn round(dims: u8) -> Side<'static> {
-    interface(ROUND, dims, &[ROUND, OBJECT])
 }

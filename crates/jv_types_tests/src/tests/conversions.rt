@@ -1,222 +1,261 @@
-//! Each row: two types, whether the first may be assigned to the second, whether the second to the first, and whether one may be
-//! cast to the other.
+//! Which types may stand for which.
 
-use super::{
-    OBJECT, animal, bad, boolean, char, coin, dog, int, long, named, null, object, plain, round,
-    stone, string, titled, void,
-};
-use jv_instance::TypeBase;
+use super::{OBJECT, first_word, is_row, side};
 use jv_types::{Side, assignable, castable, is_numeric, is_reference, promote, subtype};
 
-fn converts(a: Side<'_>, b: Side<'_>, forth: bool, back: bool, cast: bool) -> bool {
-    assignable(a.ty, b.ty, a.up, OBJECT) == forth
-        && assignable(b.ty, a.ty, b.up, OBJECT) == back
-        && castable(a, b, OBJECT) == cast
-        && castable(b, a, OBJECT) == cast
+/// A plus for what holds.
+fn mark(holds: bool) -> u8 {
+    if holds { b'+' } else { b'-' }
 }
 
-#[test]
-fn numbers_widen(rt: HostRuntime) {
-    for (a, b, forth, back, cast) in [
-        (char(0), char(0), true, true, true),
-        (char(0), int(0), true, false, true),
-        (char(0), long(0), true, false, true),
-        (int(0), int(0), true, true, true),
-        (int(0), long(0), true, false, true),
-        (long(0), long(0), true, true, true),
-    ] {
-        assert!(rt; converts(a, b, forth, back, cast));
+/// Two types, and whether the first may be assigned to the second, the second to the first, and each be cast to the other.
+const CONVERSIONS: &str = "\
+# numbers widen
+char char ++++
+char int +-++
+char long +-++
+int int ++++
+int long +-++
+long long ++++
+# primitives have no boxes
+boolean boolean ++++
+boolean char ----
+boolean int ----
+boolean long ----
+boolean object ----
+int object ----
+int string ----
+char named ----
+long object[] ----
+# null fits references
+null null ++++
+null animal +-++
+null string +-++
+null named +-++
+null int[] +-++
+null animal[][] +-++
+null int ----
+null boolean ----
+# classes go up
+dog dog ++++
+dog animal +-++
+dog object +-++
+animal object +-++
+animal stone ----
+dog stone ----
+string animal ----
+coin stone ----
+# a class that is not final may meet an interface
+dog named +-++
+coin named +-++
+animal named --++
+dog round --++
+coin round ----
+coin titled ----
+string named ----
+# interfaces meet
+named named ++++
+named object +-++
+titled named +-++
+titled object +-++
+named round --++
+titled round --++
+# arrays of primitives stay apart
+int[] int[] ++++
+int[] int ----
+int[] int[][] ----
+char[] int[] ----
+int[][] long[][] ----
+boolean[] int[] ----
+int[] object +-++
+int[][] object +-++
+int[][] object[] +-++
+int[] object[] ----
+int[] string ----
+int[] named ----
+# arrays of classes follow their elements
+dog[] animal[] +-++
+dog[][] animal[][] +-++
+dog[] object[] +-++
+named[] object[] +-++
+animal[] named[] --++
+named[][][] round[][][] --++
+coin[] round[] ----
+animal[] stone[] ----
+dog[] int[] ----
+# arrays are below object alone
+dog[] object +-++
+dog[][] object[] +-++
+dog[] dog ----
+dog[] animal ----
+animal[] named ----
+dog[][] animal[] ----
+animal[][] named[] ----
+dog[] int[][] ----
+# a bad type fits both ways
+bad bad[][] ++++
+bad boolean ++++
+bad int ++++
+bad null ++++
+bad void ++++
+bad dog ++++
+bad named[] ++++
+bad[][] bad[] ++++
+boolean bad[] ++++
+int bad[] ++++
+null bad[] ++++
+void bad[] ++++
+dog bad[] ++++
+named[] bad[] ++++
+# void fits no value
+void boolean ----
+void int ----
+void null ----
+void object ----
+void int[] ----
+";
+
+/// The marks of two types.
+fn marks(a: Side<'_>, b: Side<'_>) -> [u8; 4] {
+    [
+        mark(assignable(a.ty, b.ty, a.up, OBJECT)),
+        mark(assignable(b.ty, a.ty, b.up, OBJECT)),
+        mark(castable(a, b, OBJECT)),
+        mark(castable(b, a, OBJECT)),
+    ]
+}
+
+/// Whether a row has the marks of its types.
+fn is_converted(line: &str) -> bool {
+    let (a, rest) = first_word(line);
+    let (b, wanted) = first_word(rest);
+    match (side(a), side(b)) {
+        (Some(a), Some(b)) => wanted.as_bytes() == marks(a, b).as_slice(),
+        _ => false,
     }
 }
 
-#[test]
-fn primitives_have_no_boxes(rt: HostRuntime) {
-    for (a, b, forth, back, cast) in [
-        (boolean(0), boolean(0), true, true, true),
-        (boolean(0), char(0), false, false, false),
-        (boolean(0), int(0), false, false, false),
-        (boolean(0), long(0), false, false, false),
-        (boolean(0), object(0), false, false, false),
-        (int(0), object(0), false, false, false),
-        (int(0), string(0), false, false, false),
-        (char(0), named(0), false, false, false),
-        (long(0), object(1), false, false, false),
-    ] {
-        assert!(rt; converts(a, b, forth, back, cast));
+/// The first row that has other marks.
+fn wrong_conversion() -> Option<&'static str> {
+    for line in CONVERSIONS.lines() {
+        if is_row(line) && !is_converted(line) {
+            return Some(line);
+        }
     }
+    None
 }
 
 #[test]
-fn null_fits_references(rt: HostRuntime) {
-    for (b, forth, back) in [
-        (null(), true, true),
-        (animal(0), true, false),
-        (string(0), true, false),
-        (named(0), true, false),
-        (int(1), true, false),
-        (animal(2), true, false),
-        (int(0), false, false),
-        (boolean(0), false, false),
-    ] {
-        assert!(rt; converts(null(), b, forth, back, forth));
+fn types_stand_for_others(rt: HostRuntime) {
+    assert_eq!(rt; wrong_conversion(), None);
+}
+
+/// Two types, and whether the first is a subtype of the second.
+const SUBTYPES: &str = "\
+dog animal +
+animal dog -
+titled object +
+int[] object +
+dog[] animal[] +
+null object -
+char int -
+";
+
+/// Whether a row has the mark of its types.
+fn is_subtype_row(line: &str) -> bool {
+    let (a, rest) = first_word(line);
+    let (b, wanted) = first_word(rest);
+    match (side(a), side(b)) {
+        (Some(a), Some(b)) => wanted.as_bytes()
+            == [mark(subtype(a.ty, b.ty, a.up, OBJECT))].as_slice(),
+        _ => false,
     }
 }
 
-#[test]
-fn classes_go_up(rt: HostRuntime) {
-    for (a, b, forth, back, cast) in [
-        (dog(0), dog(0), true, true, true),
-        (dog(0), animal(0), true, false, true),
-        (dog(0), object(0), true, false, true),
-        (animal(0), object(0), true, false, true),
-        (animal(0), stone(0), false, false, false),
-        (dog(0), stone(0), false, false, false),
-        (string(0), animal(0), false, false, false),
-        (coin(0), stone(0), false, false, false),
-    ] {
-        assert!(rt; converts(a, b, forth, back, cast));
+/// The first row that has another mark.
+fn wrong_subtype() -> Option<&'static str> {
+    for line in SUBTYPES.lines() {
+        if !is_subtype_row(line) {
+            return Some(line);
+        }
     }
-}
-
-#[test]
-fn a_class_that_is_not_final_may_meet_an_interface(rt: HostRuntime) {
-    for (a, b, forth, back, cast) in [
-        (dog(0), named(0), true, false, true),
-        (coin(0), named(0), true, false, true),
-        (animal(0), named(0), false, false, true),
-        (dog(0), round(0), false, false, true),
-        (coin(0), round(0), false, false, false),
-        (coin(0), titled(0), false, false, false),
-        (string(0), named(0), false, false, false),
-    ] {
-        assert!(rt; converts(a, b, forth, back, cast));
-    }
-}
-
-#[test]
-fn interfaces_meet(rt: HostRuntime) {
-    for (a, b, forth, back, cast) in [
-        (named(0), named(0), true, true, true),
-        (named(0), object(0), true, false, true),
-        (titled(0), named(0), true, false, true),
-        (titled(0), object(0), true, false, true),
-        (named(0), round(0), false, false, true),
-        (titled(0), round(0), false, false, true),
-    ] {
-        assert!(rt; converts(a, b, forth, back, cast));
-    }
-}
-
-#[test]
-fn arrays_of_primitives_stay_apart(rt: HostRuntime) {
-    for (a, b, forth, back, cast) in [
-        (int(1), int(1), true, true, true),
-        (int(1), int(0), false, false, false),
-        (int(1), int(2), false, false, false),
-        (char(1), int(1), false, false, false),
-        (int(2), long(2), false, false, false),
-        (boolean(1), int(1), false, false, false),
-        (int(1), object(0), true, false, true),
-        (int(2), object(0), true, false, true),
-        (int(2), object(1), true, false, true),
-        (int(1), object(1), false, false, false),
-        (int(1), string(0), false, false, false),
-        (int(1), named(0), false, false, false),
-    ] {
-        assert!(rt; converts(a, b, forth, back, cast));
-    }
-}
-
-#[test]
-fn arrays_of_classes_follow_their_elements(rt: HostRuntime) {
-    for (a, b, forth, back, cast) in [
-        (dog(1), animal(1), true, false, true),
-        (dog(2), animal(2), true, false, true),
-        (dog(1), object(1), true, false, true),
-        (named(1), object(1), true, false, true),
-        (animal(1), named(1), false, false, true),
-        (named(3), round(3), false, false, true),
-        (coin(1), round(1), false, false, false),
-        (animal(1), stone(1), false, false, false),
-        (dog(1), int(1), false, false, false),
-    ] {
-        assert!(rt; converts(a, b, forth, back, cast));
-    }
-}
-
-#[test]
-fn arrays_are_below_object_alone(rt: HostRuntime) {
-    for (a, b, forth, back, cast) in [
-        (dog(1), object(0), true, false, true),
-        (dog(2), object(1), true, false, true),
-        (dog(1), dog(0), false, false, false),
-        (dog(1), animal(0), false, false, false),
-        (animal(1), named(0), false, false, false),
-        (dog(2), animal(1), false, false, false),
-        (animal(2), named(1), false, false, false),
-        (dog(1), int(2), false, false, false),
-    ] {
-        assert!(rt; converts(a, b, forth, back, cast));
-    }
-}
-
-#[test]
-fn a_bad_type_fits_both_ways(rt: HostRuntime) {
-    for b in [bad(2), boolean(0), int(0), null(), void(), dog(0), named(1)] {
-        assert!(rt; converts(bad(0), b, true, true, true));
-        assert!(rt; converts(b, bad(1), true, true, true));
-    }
-}
-
-#[test]
-fn void_fits_no_value(rt: HostRuntime) {
-    for b in [boolean(0), int(0), null(), object(0), int(1)] {
-        assert!(rt; converts(void(), b, false, false, false));
-    }
+    None
 }
 
 #[test]
 fn subtypes_are_references(rt: HostRuntime) {
-    for (a, b, below) in [
-        (dog(0), animal(0), true),
-        (animal(0), dog(0), false),
-        (titled(0), object(0), true),
-        (int(1), object(0), true),
-        (dog(1), animal(1), true),
-        (null(), object(0), false),
-        (char(0), int(0), false),
-    ] {
-        assert_eq!(rt; subtype(a.ty, b.ty, a.up, OBJECT), below);
+    assert_eq!(rt; wrong_subtype(), None);
+}
+
+/// A type, and whether it is numeric and whether a reference.
+const KINDS: &str = "\
+char +-
+int +-
+long +-
+boolean --
+null --
+void --
+int[] -+
+dog -+
+";
+
+/// Whether a row has the marks of its type.
+fn is_kind_row(line: &str) -> bool {
+    let (a, wanted) = first_word(line);
+    match side(a) {
+        Some(a) => wanted.as_bytes()
+            == [mark(is_numeric(a.ty)), mark(is_reference(a.ty))].as_slice(),
+        None => false,
     }
 }
 
-#[test]
-fn kinds_of_types(rt: HostRuntime) {
-    for (a, numeric, reference) in [
-        (char(0), true, false),
-        (int(0), true, false),
-        (long(0), true, false),
-        (boolean(0), false, false),
-        (null(), false, false),
-        (void(), false, false),
-        (int(1), false, true),
-        (dog(0), false, true),
-    ] {
-        assert_eq!(rt; is_numeric(a.ty), numeric);
-        assert_eq!(rt; is_reference(a.ty), reference);
+/// The first row that has other marks.
+fn wrong_kind() -> Option<&'static str> {
+    for line in KINDS.lines() {
+        if !is_kind_row(line) {
+            return Some(line);
+        }
     }
+    None
+}
+
+#[test]
+fn types_are_numeric_or_references(rt: HostRuntime) {
+    assert_eq!(rt; wrong_kind(), None);
+}
+
+/// Two types, and what they are promoted to.
+const PROMOTIONS: &str = "\
+char char int
+char int int
+int int int
+int long long
+long char long
+";
+
+/// Whether the types of a row are promoted so.
+fn is_promoted(line: &str) -> bool {
+    let (a, rest) = first_word(line);
+    let (b, wanted) = first_word(rest);
+    match (side(a), side(b), side(wanted)) {
+        (Some(a), Some(b), Some(wanted)) => {
+            is_numeric(a.ty) && is_numeric(b.ty) && promote(a.ty, b.ty) == wanted.ty
+        }
+        _ => false,
+    }
+}
+
+/// The first row whose types are promoted otherwise.
+fn wrong_promotion() -> Option<&'static str> {
+    for line in PROMOTIONS.lines() {
+        if !is_promoted(line) {
+            return Some(line);
+        }
+    }
+    None
 }
 
 #[test]
 fn promotion_is_to_int_or_long(rt: HostRuntime) {
-    for (a, b, base) in [
-        (char(0), char(0), TypeBase::Int),
-        (char(0), int(0), TypeBase::Int),
-        (int(0), int(0), TypeBase::Int),
-        (int(0), long(0), TypeBase::Long),
-        (long(0), char(0), TypeBase::Long),
-    ] {
-        assert!(rt; is_numeric(a.ty) && is_numeric(b.ty));
-        assert_eq!(rt; promote(a.ty, b.ty), plain(base));
-    }
+    assert_eq!(rt; wrong_promotion(), None);
 }
