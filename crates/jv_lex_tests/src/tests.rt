@@ -180,60 +180,80 @@ const QUOTES: [(&str, &str); 32] = [
     ("x = \"", "literal 4 "),
 ];
 
-#[test]
-fn tables_of_tokens(rt: HostRuntime) -> Result<(), Fail> {
-    for table in [
-        WORDS.as_slice(),
-        GAPS.as_slice(),
-        MARKS.as_slice(),
-        NUMBERS.as_slice(),
-        QUOTES.as_slice(),
-    ] {
-        for (source, tokens) in table {
-            let source = source.as_bytes();
-            assert!(rt; source.len() < 100);
-            let found = shown(rt.alloc(), source)?;
-            assert_eq!(rt; found.as_str(), *tokens);
+/// Whether a source has these tokens, or this fault.
+fn is_shown(alloc: Global, source: &[u8], wanted: &str) -> Result<bool, Fail> {
+    if source.len() > 100 {
+        return Err(Fail::new("a source is too long"));
+    }
+    Ok(shown(alloc, source)?.as_str() == wanted)
+}
+
+/// The sources and their tokens.
+const TABLES: [&[(&str, &str)]; 5] = [&WORDS, &GAPS, &MARKS, &NUMBERS, &QUOTES];
+
+/// The first of the sources that has others.
+fn wrong_source(alloc: Global) -> Result<Option<&'static str>, Fail> {
+    for table in &TABLES {
+        for (source, tokens) in *table {
+            if !is_shown(alloc, source.as_bytes(), tokens)? {
+                return Ok(Some(*source));
+            }
         }
     }
-    Ok(())
+    Ok(None)
 }
 
 #[test]
-fn first_bad_places(rt: HostRuntime) -> Result<(), Fail> {
-    let whole = shown(rt.alloc(), b"class A { int a = -2147483648; }")?;
-    assert_eq!(rt;
-        whole.as_str(),
-        "Keyword(8) 0..5 Ident 6..7 Punct(2) 8..9 Keyword(26) 10..13 Ident 14..15 Punct(12) 16..17 Punct(29) 18..19 Minimum 19..29 Punct(6) 29..30 Punct(3) 31..32 "
-    );
-    let literal = shown(rt.alloc(), b"class A { int a = 2147483648; }")?;
-    assert_eq!(rt; literal.as_str(), "literal 18 ");
-    let bytes = shown(rt.alloc(), b"class A {} \xff")?;
-    assert_eq!(rt; bytes.as_str(), "not UTF-8 11 ");
-    let cut = shown(rt.alloc(), b"' \xe5\x90")?;
-    assert_eq!(rt; cut.as_str(), "not UTF-8 2 ");
+fn tables_of_tokens(rt: HostRuntime) -> Result<(), Fail> {
+    assert_eq!(rt; wrong_source(rt.alloc())?, None);
     Ok(())
+}
+
+/// A class with a field.
+const FIELD: &str =
+    "Keyword(8) 0..5 Ident 6..7 Punct(2) 8..9 Keyword(26) 10..13 Ident 14..15 Punct(12) 16..17 Punct(29) 18..19 Minimum 19..29 Punct(6) 29..30 Punct(3) 31..32 ";
+
+#[test]
+fn first_bad_places(rt: HostRuntime) -> Result<(), Fail> {
+    let alloc = rt.alloc();
+    assert!(rt; is_shown(alloc, b"class A { int a = -2147483648; }", FIELD)?);
+    assert!(rt; is_shown(alloc, b"class A { int a = 2147483648; }", "literal 18 ")?);
+    assert!(rt; is_shown(alloc, b"class A {} \xff", "not UTF-8 11 ")?);
+    assert!(rt; is_shown(alloc, b"' \xe5\x90", "not UTF-8 2 ")?);
+    Ok(())
+}
+
+/// A source with each end of a line.
+const LINES: &[u8] = b"a\xc3\xa9b\ncd\r\nef\rg\n\nh";
+
+/// Its offsets, each with its line and its column.
+const PLACES: [(u32, u32, u32); 13] = [
+    (0, 1, 1),
+    (1, 1, 2),
+    (3, 1, 3),
+    (4, 1, 4),
+    (5, 2, 1),
+    (7, 2, 3),
+    (8, 2, 4),
+    (9, 3, 1),
+    (11, 3, 3),
+    (12, 4, 1),
+    (14, 5, 1),
+    (15, 6, 1),
+    (16, 6, 2),
+];
+
+/// The first of the offsets that has another line or column.
+fn wrong_place() -> Option<u32> {
+    for (at, line, column) in &PLACES {
+        if *at as usize > LINES.len() || place(LINES, *at) != (*line, *column) {
+            return Some(*at);
+        }
+    }
+    None
 }
 
 #[test]
 fn lines_and_columns(rt: HostRuntime) {
-    let source = b"a\xc3\xa9b\ncd\r\nef\rg\n\nh";
-    for (at, line, column) in [
-        (0u32, 1u32, 1u32),
-        (1, 1, 2),
-        (3, 1, 3),
-        (4, 1, 4),
-        (5, 2, 1),
-        (7, 2, 3),
-        (8, 2, 4),
-        (9, 3, 1),
-        (11, 3, 3),
-        (12, 4, 1),
-        (14, 5, 1),
-        (15, 6, 1),
-        (16, 6, 2),
-    ] {
-        assert!(rt; at as usize <= source.len());
-        assert_eq!(rt; place(source, at), (line, column));
-    }
+    assert_eq!(rt; wrong_place(), None);
 }

@@ -9,7 +9,6 @@ use jv_tree::{
     Base, Expr, ExprKind, Ident, Name, NameId, Names, Step, StepKind, Stmt, StmtKind, Target,
 };
 use std::alloc::{AllocError, Global};
-use std::process::Abort;
 use std::test::Fail;
 
 fn ident(at: u32) -> Ident {
@@ -31,36 +30,35 @@ const FIRST_SEEN: [(&str, u32, u32); 5] = [
     ("y", 3, 4),
 ];
 
-/// Asserts that a text has this name, which is one of the names.
-fn compare_name(rt: &impl Abort, names: &Names, text: &str, id: NameId) {
-    assert_eq!(rt; names.find(text), Some(id), "{text}");
-    assert!(rt; id.0 < names.len());
-    assert_eq!(rt; names.text(id), text);
+/// Whether a text has this name, which is one of the names.
+fn has_name(names: &Names, text: &str, id: NameId) -> bool {
+    names.find(text) == Some(id) && id.0 < names.len() && names.text(id) == text
 }
 
-/// Asserts the number that a text is given, and how many names there are then.
-fn compare_number(
-    rt: &impl Abort,
-    names: &mut Names,
-    text: &str,
-    number: u32,
-    len: u32,
-) -> Result<(), Fail> {
-    assert!(rt; names.len() < 100);
+/// Whether a text is given this number, and there are so many names then.
+fn is_numbered(names: &mut Names, text: &str, number: u32, len: u32) -> Result<bool, Fail> {
+    if names.len() >= 100 {
+        return Ok(false);
+    }
     let id = names.intern(text)?;
-    assert_eq!(rt; id, NameId(number), "{text}");
-    assert_eq!(rt; names.len(), len, "{text}");
-    compare_name(rt, names, text, id);
-    Ok(())
+    Ok(id == NameId(number) && names.len() == len && has_name(names, text, id))
+}
+
+/// The first of the texts that is given another number.
+fn wrong_number(names: &mut Names) -> Result<Option<&'static str>, Fail> {
+    for (text, number, len) in &FIRST_SEEN {
+        if !is_numbered(names, text, *number, *len)? {
+            return Ok(Some(*text));
+        }
+    }
+    Ok(None)
 }
 
 #[test]
 fn numbers_in_first_seen_order(rt: HostRuntime) -> Result<(), Fail> {
     let mut names = Names::new(rt.alloc());
     assert_eq!(rt; names.len(), 0);
-    for (text, number, len) in &FIRST_SEEN {
-        compare_number(&rt, &mut names, text, *number, *len)?;
-    }
+    assert_eq!(rt; wrong_number(&mut names)?, None);
     assert_eq!(rt; names.find("z"), None);
     Ok(())
 }
@@ -227,13 +225,18 @@ fn round(alloc: Global) -> Result<Stmt, AllocError> {
     for_loop(alloc, 35, first, Some(bool_literal(45)), after, empty(60))
 }
 
+fn is_round(round: &Stmt) -> bool {
+    matches!(&round.kind, StmtKind::For(first, Some(test), after, body)
+        if first.len() == 1 && test.at == 45 && after.len() == 1 && body.at == 60)
+}
+
+fn round_has_its_parts(alloc: Global) -> Result<bool, AllocError> {
+    Ok(is_round(&round(alloc)?))
+}
+
 #[test]
 fn rounds(rt: HostRuntime) -> Result<(), Fail> {
-    let round = round(rt.alloc())?;
-    assert!(rt;
-        matches!(&round.kind, StmtKind::For(first, Some(test), after, body)
-        if first.len() == 1 && test.at == 45 && after.len() == 1 && body.at == 60)
-    );
+    assert!(rt; round_has_its_parts(rt.alloc())?);
     Ok(())
 }
 

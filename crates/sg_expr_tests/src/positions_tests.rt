@@ -2,6 +2,7 @@
 
 ghost use Rattle.std.specs.Prelude.{◌<◌};
 
+use crate::tests::wrong_head;
 use sg_base::Label;
 use sg_expr::{Expr, Positions};
 use std::alloc::{AllocError, Global};
@@ -68,48 +69,6 @@ fn agree(alloc: Global, expr: &Expr) -> Result<bool, AllocError> {
     Ok(true)
 }
 
-#[test]
-fn positions_of_a_sequence(rt: HostRuntime) -> Result<(), Fail> {
-    let alloc = rt.alloc();
-    let expr = then(alloc, any(alloc, one(0))?, one(1))?;
-    assert!(rt; expr.names_at_most(63));
-    let positions = Positions::build(alloc, &expr)?;
-    let first = positions.first();
-    assert!(rt; first != 0 && positions.goes_on(first) && !positions.ends(first));
-    for (number, is_head) in [(0, true), (1, true), (2, false), (15, false)] {
-        assert_eq!(rt;
-            positions.heads(first).has(Label::new(number)),
-            is_head,
-            "at {number}"
-        );
-    }
-    let again = positions.step(first, Label::new(0));
-    let ended = positions.step(again, Label::new(1));
-    assert!(rt; !positions.ends(again) && positions.ends(ended) && !positions.goes_on(ended));
-    assert_eq!(rt; positions.step(first, Label::new(2)), 0);
-    Ok(())
-}
-
-#[test]
-fn positions_and_derivatives_agree(rt: HostRuntime) -> Result<(), Fail> {
-    let alloc = rt.alloc();
-    let front = any(alloc, then(alloc, one(0), any(alloc, one(1))?)?)?;
-    let nested = any(alloc, either(alloc, front, then(alloc, one(2), one(0))?)?)?;
-    assert!(rt; agree(alloc, &nested)?);
-    let dead = then(alloc, any(alloc, one(0))?, Expr::Nothing)?;
-    let beside_dead = either(alloc, dead, then(alloc, any(alloc, one(1))?, one(0))?)?;
-    assert!(rt; agree(alloc, &then(alloc, beside_dead, any(alloc, Expr::Empty)?)?)?);
-    let or_empty = either(alloc, Expr::Empty, then(alloc, one(0), one(0))?)?;
-    assert!(rt;
-        agree(
-            alloc,
-            &then(alloc, or_empty, either(alloc, one(0), one(1))?)?
-        )?
-    );
-    assert!(rt; agree(alloc, &Expr::Nothing)? && agree(alloc, &Expr::Empty)?);
-    Ok(())
-}
-
 /// The last of these expressions, which is taken from them, or the empty word.
 fn last(parts: &mut Vec<Expr>) -> Expr {
     match parts.pop() {
@@ -118,32 +77,129 @@ fn last(parts: &mut Vec<Expr>) -> Expr {
     }
 }
 
-/// An expression by the digits of a number: each adds a part, joins the last two or repeats the last.
-fn by_digits(alloc: Global, digits: u64) -> Result<Expr, AllocError> {
+/// Adds a part behind others, joins the last two or repeats the last.
+fn put_part(alloc: Global, parts: &mut Vec<Expr>, part: u8) -> Result<(), AllocError> {
+    let made = match part {
+        b'0' => one(0),
+        b'1' => one(1),
+        b'2' => one(2),
+        b'*' => any(alloc, last(parts))?,
+        b'.' => {
+            let second = last(parts);
+            then(alloc, last(parts), second)?
+        }
+        b'|' => {
+            let right = last(parts);
+            either(alloc, last(parts), right)?
+        }
+        b'e' => Expr::Empty,
+        _ => Expr::Nothing,
+    };
+    parts.push(made)?;
+    Ok(())
+}
+
+/// The expression of a text: labels, `e` for the empty word and `n` for no word, each operator behind what it joins or repeats.
+fn expr_of(alloc: Global, text: &str) -> Result<Expr, AllocError> {
     let mut parts = Vec::new(alloc);
-    let mut left = digits;
-    for _ in 0..12 {
-        let part = match left % 8 {
-            0 | 1 | 2 => one((left % 8) as u8),
-            3 => any(alloc, last(&mut parts))?,
-            4 | 5 => {
-                let second = last(&mut parts);
-                then(alloc, last(&mut parts), second)?
-            }
-            6 => {
-                let right = last(&mut parts);
-                either(alloc, last(&mut parts), right)?
-            }
-            _ => Expr::Nothing,
-        };
-        parts.push(part)?;
-        left /= 8;
+    for part in text.as_bytes() {
+        put_part(alloc, &mut parts, *part)?;
     }
+    Ok(last(&mut parts))
+}
+
+/// The positions of any number of labels 0, and then a label 1.
+fn positions_of_zeros_and_one(alloc: Global) -> Result<Positions, Fail> {
+    let expr = expr_of(alloc, "0*1.")?;
+    if !expr.names_at_most(63) {
+        return Err(Fail::new("too many labels"));
+    }
+    Ok(Positions::build(alloc, &expr)?)
+}
+
+/// The positions behind the labels of a word.
+fn behind(positions: &Positions, word: &[u8]) -> u64 {
+    let mut set = positions.first();
+    for number in word {
+        set = positions.step(set, Label::new(*number % 16));
+    }
+    set
+}
+
+/// Words, and whether one may end behind each, and whether one goes on there.
+const WORDS: [(&[u8], bool, bool); 4] = [
+    (&[], false, true),
+    (&[0], false, true),
+    (&[0, 1], true, false),
+    (&[2], false, false),
+];
+
+/// The first of the words of which it is otherwise.
+fn wrong_word(positions: &Positions) -> Option<usize> {
+    for (at, (word, ends, goes_on)) in WORDS.iter().enumerate() {
+        let set = behind(positions, word);
+        if positions.ends(set) != *ends || positions.goes_on(set) != *goes_on {
+            return Some(at);
+        }
+    }
+    None
+}
+
+#[test]
+fn positions_of_a_sequence(rt: HostRuntime) -> Result<(), Fail> {
+    let positions = positions_of_zeros_and_one(rt.alloc())?;
+    assert_eq!(rt; wrong_word(&positions), None);
+    assert_eq!(rt; wrong_head(positions.heads(positions.first())), None);
+    assert!(rt; positions.first() != 0);
+    assert_eq!(rt; behind(&positions, &[2]), 0);
+    Ok(())
+}
+
+/// Expressions with nested stars, with a part that has no word, and with one that has the empty word.
+const EXPRESSIONS: [&str; 5] = ["01*.*20.|*", "0*n.1*0.|e*.", "e00.|01|.", "n", "e"];
+
+/// The first of the expressions where positions and derivatives differ.
+fn differing(alloc: Global) -> Result<Option<&'static str>, AllocError> {
+    for text in &EXPRESSIONS {
+        if !agree(alloc, &expr_of(alloc, text)?)? {
+            return Ok(Some(*text));
+        }
+    }
+    Ok(None)
+}
+
+#[test]
+fn positions_and_derivatives_agree(rt: HostRuntime) -> Result<(), Fail> {
+    assert_eq!(rt; differing(rt.alloc())?, None);
+    Ok(())
+}
+
+/// The parts that digits stand for.
+const PARTS: &[u8; 8] = b"012*..|n";
+
+/// All of these expressions, one behind another.
+fn joined(alloc: Global, mut parts: Vec<Expr>) -> Result<Expr, AllocError> {
     let mut all = last(&mut parts);
     for part in parts {
         all = either(alloc, part, then(alloc, all, one(1))?)?;
     }
     Ok(all)
+}
+
+/// An expression by the digits of a number.
+fn by_digits(alloc: Global, digits: u64) -> Result<Expr, AllocError> {
+    let mut parts = Vec::new(alloc);
+    let mut left = digits;
+    for _ in 0..12 {
+        put_part(alloc, &mut parts, PARTS[(left % 8) as usize])?;
+        left /= 8;
+    }
+    joined(alloc, parts)
+}
+
+/// Whether positions and derivatives agree on the expression by the digits of a number.
+fn agree_by(alloc: Global, digits: u64) -> Result<bool, AllocError> {
+    agree(alloc, &by_digits(alloc, digits)?)
 }
 
 #[test]
@@ -153,20 +209,29 @@ fn positions_and_derivatives_agree_on_random_expressions(rt: HostRuntime) -> Res
         seed = seed
             .wrapping_mul(6_364_136_223_846_793_005)
             .wrapping_add(1_442_695_040_888_963_407);
-        let expr = by_digits(rt.alloc(), seed >> 20)?;
-        assert!(rt; agree(rt.alloc(), &expr)?, "in round {round}");
+        assert!(rt; agree_by(rt.alloc(), seed >> 20)?, "in round {round}");
     }
     Ok(())
 }
 
+/// What is left of a repeated repetition behind so many labels.
+fn behind_zeros(alloc: Global, times: u32) -> Result<Expr, AllocError> {
+    let mut rest = expr_of(alloc, "0**")?;
+    for _ in 0..times {
+        rest = rest.after(alloc, Label::new(0))?;
+    }
+    Ok(rest)
+}
+
+/// Whether an expression is the same as its copy.
+fn is_copied(alloc: Global, expr: &Expr) -> Result<bool, AllocError> {
+    Ok(expr.is_same(&expr.copy(alloc)?))
+}
+
 #[test]
 fn derivatives_of_nested_stars_do_not_double(rt: HostRuntime) -> Result<(), Fail> {
-    let alloc = rt.alloc();
-    let mut expr = any(alloc, any(alloc, one(0))?)?;
-    for _ in 0..24 {
-        expr = expr.after(alloc, Label::new(0))?;
-    }
-    assert!(rt; expr.names_at_most(8) && expr.is_same(&expr.copy(alloc)?));
-    assert!(rt; !expr.is_same(&one(0)));
+    let rest = behind_zeros(rt.alloc(), 24)?;
+    assert!(rt; rest.names_at_most(8) && is_copied(rt.alloc(), &rest)?);
+    assert!(rt; !rest.is_same(&one(0)));
     Ok(())
 }
