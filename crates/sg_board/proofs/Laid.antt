@@ -6,7 +6,7 @@ use Rattle.std.proofs.lemmas.Bool.{cases_Bool}
 use Rattle.std.proofs.lemmas.Bool.Decides.{nat_tests}
 use Rattle.std.proofs.lemmas.List.Elements.{All-nil, All-cons}
 use Rattle.sg_board.specs.declared.place.Place.{Place}
-use Rattle.sg_board.specs.declared.place.Place.TheVariants.{Away, Waiting, Ended}
+use Rattle.sg_board.specs.declared.place.Place.TheVariants.{Away, Resting, Waiting, Ended}
 use Rattle.sg_board.specs.Places.{task_at, HasTask, number_at, numbers_at, ArePlaced, counting}
 use Rattle.sg_board.specs.Weighing.{weigh, times, weigh_option}
 use Rattle.sg_board.proofs.Weights.{weigh-append}
@@ -42,25 +42,34 @@ module _ {T : Type 0} (number : T → ℕ) where
 
   at_of : (h : ℕ → ℕ) (p : Place T) (t : T) → task_at p ≡ Some t → weigh h (number_at number p) ≡ h (number t)
   at_of h (Away woken) t e = absurd (cc)
+  at_of h (Resting s) t e = let same : s ≡ t = cc in let k : h (number s) ≡ h (number t) = ap (λ x. h (number x)) same in omega (arith, k)
   at_of h (Waiting s) t e = let same : s ≡ t = cc in let k : h (number s) ≡ h (number t) = ap (λ x. h (number x)) same in omega (arith, k)
   at_of h (Ended s) t e = let same : s ≡ t = cc in let k : h (number s) ≡ h (number t) = ap (λ x. h (number x)) same in omega (arith, k)
 
   at_none : (p : Place T) → task_at p ≡ None → number_at number p ≡ []
   at_none (Away woken) e = refl
+  at_none (Resting s) e = absurd (cc)
   at_none (Waiting s) e = absurd (cc)
   at_none (Ended s) e = absurd (cc)
 
+  -- the numbers at a place are that of its task
+  number_of : Option T → List ℕ
+  number_of None = []
+  number_of (Some t) = number t ∷ []
+
+  number_of_at : (p : Place T) → number_at number p ≡ number_of (task_at p)
+  unfolding number_of
+  number_of_at (Away woken) = refl
+  number_of_at (Resting t) = refl
+  number_of_at (Waiting t) = refl
+  number_of_at (Ended t) = refl
+
   same_at : (p q : Place T) → task_at p ≡ task_at q → number_at number p ≡ number_at number q
-  same_at p (Away woken) e = at_none p e
-  same_at (Away woken) (Waiting t) e = absurd (cc)
-  same_at (Waiting s) (Waiting t) e = let same : s ≡ t = cc in ap (λ x. number x ∷ []) same
-  same_at (Ended s) (Waiting t) e = let same : s ≡ t = cc in ap (λ x. number x ∷ []) same
-  same_at (Away woken) (Ended t) e = absurd (cc)
-  same_at (Waiting s) (Ended t) e = let same : s ≡ t = cc in ap (λ x. number x ∷ []) same
-  same_at (Ended s) (Ended t) e = let same : s ≡ t = cc in ap (λ x. number x ∷ []) same
+  same_at p q e = number_of_at p ∙ (ap number_of e ∙ sym (number_of_at q))
 
   task_or_none : (p : Place T) → ((t : T) × (task_at p ≡ Some t)) ⊎ (task_at p ≡ None)
   task_or_none (Away woken) = inr refl
+  task_or_none (Resting t) = inl (t, refl)
   task_or_none (Waiting t) = inl (t, refl)
   task_or_none (Ended t) = inl (t, refl)
 

@@ -1,7 +1,7 @@
 -- The tasks on a board, by their numbers.
 use Rattle.std.specs.Prelude.{◌≡◌, ℕ, zero, suc, List, [], ◌∷◌, ◌++◌, Option, Some, None, slice_get}
 use Rattle.sg_board.specs.declared.place.Place.{Place}
-use Rattle.sg_board.specs.declared.place.Place.TheVariants.{Away, Waiting, Ended}
+use Rattle.sg_board.specs.declared.place.Place.TheVariants.{Away, Resting, Waiting, Ended}
 
 -- so many numbers, from this one on
 abbrev pub counting : ℕ → ℕ → List ℕ
@@ -12,6 +12,7 @@ module _ {T : Type 0} where
   -- the task that lies at a place, where it is not with the workers
   abbrev pub task_at : Place T → Option T
   task_at (Away woken) = None
+  task_at (Resting t) = Some t
   task_at (Waiting t) = Some t
   task_at (Ended t) = Some t
 
@@ -22,6 +23,7 @@ module _ {T : Type 0} where
   -- the number of the task that lies at a place
   abbrev pub number_at : (T → ℕ) → Place T → List ℕ
   number_at number (Away woken) = []
+  number_at number (Resting t) = number t ∷ []
   number_at number (Waiting t) = number t ∷ []
   number_at number (Ended t) = number t ∷ []
 

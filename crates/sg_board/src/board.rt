@@ -6,13 +6,16 @@ use crate::places::Places;
 use crate::progress::Progress;
 use crate::task::Task;
 use std::alloc::{AllocError, Global};
+use std::collections::VecDeque;
 
-/// The tasks that wait or have ended. The others are with the workers: ready, or at one that makes their steps.
+/// The tasks that rest, wait or have ended. The others are with the workers: ready, or at one that makes their steps.
 #[derive(Drop)]
 pub(crate) struct Board<T: Task> {
     pub(crate) places: Places<T>,
     /// How many tasks are with the workers.
     away: u64,
+    /// The numbers of the tasks that rest, in the order in which they came to. There is room for all.
+    resting: VecDeque<u32>,
 }
 
 impl<T: Task> TaskHolder for Board<T> {
@@ -33,7 +36,12 @@ impl<T: Task> Board<T> {
     {
         let places = Places::new(alloc, count)?;
         let away = count as u64;
-        Ok(Board { places, away })
+        let resting = VecDeque::with_capacity(alloc, count)?;
+        Ok(Board {
+            places,
+            away,
+            resting,
+        })
     }
 
     /// How many tasks the run has.
@@ -41,7 +49,7 @@ impl<T: Task> Board<T> {
         self.places.len()
     }
 
-    /// Whether some task is ready or at a worker.
+    /// Whether some task is in a deque or at a worker.
     pub(crate) fn has_away(&self) -> bool {
         self.away > 0
     }
@@ -52,6 +60,23 @@ impl<T: Task> Board<T> {
         ensures { (h : ℕ → ℕ) → weigh_option T.number h result + weigh h (⟦<Board<T> as TaskHolder>⟧.numbers self.new) ≡ weigh h (⟦<Board<T> as TaskHolder>⟧.numbers self.old) }
     {
         self.hand_out(number, true)
+    }
+
+    /// Whether some task rests.
+    pub(crate) fn has_resting(&self) -> bool {
+        !self.resting.is_empty()
+    }
+
+    /// Hands out the task that rests longest.
+    pub(crate) fn take_resting(&mut self) -> Option<T>
+        ensures { (h : ℕ → ℕ) → weigh_option T.number h result + weigh h (⟦<Board<T> as TaskHolder>⟧.numbers self.new) ≡ weigh h (⟦<Board<T> as TaskHolder>⟧.numbers self.old) }
+    {
+        let number = self.resting.pop_front()?;
+        let task = self.places.take_resting(number);
+        if task.is_some() {
+            self.away = self.away.saturating_add(1);
+        }
+        task
     }
 
     /// Hands out the task of this number where it waits.
@@ -70,10 +95,11 @@ impl<T: Task> Board<T> {
         Some(task)
     }
 
-    /// Lays a task down after a step that told this. It comes back where it is ready.
+    /// Lays a task down after a step that told this. It comes back where it is ready and does not rest.
     pub(crate) fn put(&mut self, task: T, told: Progress) -> Option<T>
         ensures { IsPutDown T.number task result (⟦<Board<T> as TaskHolder>⟧.numbers self.old) (⟦<Board<T> as TaskHolder>⟧.numbers self.new) }
     {
+        let told = line_up(&mut self.resting, task.number(), told);
         let ready = self.places.put(task, told);
         if ready.is_none() {
             self.away = self.away.saturating_sub(1);
@@ -88,5 +114,16 @@ impl<T: Task> Board<T> {
         ensures { map T.number result.items ≡ counting 0 T.total }
     {
         self.places.into_tasks(room)
+    }
+}
+
+/// Puts the number of a task that rests behind the others. What is then told of the task: it goes on where there is no room.
+fn line_up(resting: &mut VecDeque<u32>, number: u32, told: Progress) -> Progress {
+    if !told.rests() {
+        return told;
+    }
+    match resting.push_back(number) {
+        Ok(()) => told,
+        Err(_) => Progress::Goes,
     }
 }

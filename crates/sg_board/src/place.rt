@@ -4,10 +4,11 @@ ghost use Rattle.sg_board.specs.Places.{task_at, HasTask};
 use crate::progress::Progress;
 use std::mem;
 
-/// Where a task is: with the workers, and whether it was woken there; or on the board, waiting or with no step left.
+/// Where a task is: with the workers, and whether it was woken there; or on the board, resting, waiting or with no step left.
 #[derive(Drop)]
 pub(crate) enum Place<T> {
     Away { woken: bool },
+    Resting(T),
     Waiting(T),
     Ended(T),
 }
@@ -20,6 +21,7 @@ impl<T: Drop> Place<T> {
     {
         match self {
             Place::Away { .. } => false,
+            Place::Resting(_) => true,
             Place::Waiting(_) => true,
             Place::Ended(_) => true,
         }
@@ -29,13 +31,14 @@ impl<T: Drop> Place<T> {
     fn was_woken(&self) -> bool {
         match self {
             Place::Away { woken } => *woken,
+            Place::Resting(_) => false,
             Place::Waiting(_) => false,
             Place::Ended(_) => false,
         }
     }
 
-    /// Lays the task down after a step that told this. It comes back where it is ready: it goes on, or was woken before it
-    /// could wait. One comes back too where another lies here, which no run meets.
+    /// Lays the task down after a step that told this. It comes back where it is ready and does not rest: it goes on, or was
+    /// woken before it could wait. One comes back too where another lies here, which no run meets.
     pub(crate) fn put(&mut self, task: T, told: Progress) -> Option<T>
         ensures { MatchOption result ((task_at self.old ≡ None) × (task_at self.new ≡ Some task)) (λ t. (t ≡ task) × (task_at self.new ≡ task_at self.old)) }
     {
@@ -47,6 +50,10 @@ impl<T: Drop> Place<T> {
             Progress::Goes => {
                 *self = Place::Away { woken: false };
                 Some(task)
+            }
+            Progress::Rests => {
+                *self = Place::Resting(task);
+                None
             }
             Progress::Waits if woken => {
                 *self = Place::Away { woken: false };
@@ -67,7 +74,28 @@ impl<T: Drop> Place<T> {
         }
     }
 
-    /// Takes the task, if it waits. Where it is with the workers, it is noted as woken or not.
+    /// Takes the task, if it rests.
+    pub(crate) fn take_resting(&mut self) -> Option<T>
+        ensures { MatchOption result (task_at self.new ≡ task_at self.old) (λ t. (task_at self.old ≡ Some t) × (task_at self.new ≡ None)) }
+    {
+        match mem::replace(self, Place::Away { woken: false }) {
+            Place::Away { woken } => {
+                *self = Place::Away { woken };
+                None
+            }
+            Place::Resting(task) => Some(task),
+            Place::Waiting(task) => {
+                *self = Place::Waiting(task);
+                None
+            }
+            Place::Ended(task) => {
+                *self = Place::Ended(task);
+                None
+            }
+        }
+    }
+
+    /// Takes the task, if it waits. Where it is with the workers, it is noted as woken or not. One that rests is ready, and stays.
     pub(crate) fn take_waiting(&mut self, notes: bool) -> Option<T>
         ensures { MatchOption result (task_at self.new ≡ task_at self.old) (λ t. (task_at self.old ≡ Some t) × (task_at self.new ≡ None)) }
     {
@@ -76,6 +104,10 @@ impl<T: Drop> Place<T> {
                 *self = Place::Away {
                     woken: woken || notes,
                 };
+                None
+            }
+            Place::Resting(task) => {
+                *self = Place::Resting(task);
                 None
             }
             Place::Waiting(task) => Some(task),
@@ -93,6 +125,7 @@ impl<T: Drop> Place<T> {
     {
         match self {
             Place::Away { .. } => unreachable!(),
+            Place::Resting(task) => task,
             Place::Waiting(task) => task,
             Place::Ended(task) => task,
         }

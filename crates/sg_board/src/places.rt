@@ -45,7 +45,17 @@ impl<T: Task> Places<T> {
         self.places[number as usize].take_waiting(notes)
     }
 
-    /// Lays a task down after a step that told this. It comes back where it is ready.
+    /// Takes the task of this number, if it rests.
+    pub(crate) fn take_resting(&mut self, number: u32) -> Option<T>
+        ensures { (h : ℕ → ℕ) → weigh_option T.number h result + weigh h (numbers_at T.number self.new.places.items) ≡ weigh h (numbers_at T.number self.old.places.items) }
+    {
+        if number as usize >= self.places.len() {
+            return None;
+        }
+        self.places[number as usize].take_resting()
+    }
+
+    /// Lays a task down after a step that told this. It comes back where it is ready and does not rest.
     pub(crate) fn put(&mut self, task: T, told: Progress) -> Option<T>
         ensures { IsPutDown T.number task result (numbers_at T.number self.old.places.items) (numbers_at T.number self.new.places.items) }
     {

@@ -43,11 +43,12 @@ pub(crate) fn wait_for_news<R: Wait>(rt: &R, news: &News, seen: u64) {
     news.told.park(rt, (seen & 0xffff_ffff) as u32);
 }
 
-/// Tells those that wait of so many tasks that the teller laid into its deque, and of which it takes one.
+/// Tells those that wait of so many tasks that the teller laid into its deque or onto the board, and of which it takes one.
 ///
-/// No task is left in a deque while others sleep and too few are awake to take it. A worker sleeps only after it found every
-/// deque empty, or others at the tasks. From then on the teller looks at its deque next, whatever its own task told, and takes
-/// one task for itself, so that it has none to tell of where one became ready; of each further one, one more worker is told.
+/// No task is left in a deque, or rests, while others sleep and too few are awake to take it. A worker sleeps only after it
+/// found every deque empty, or others at the tasks, and after that none that rests. From then on the teller looks at its deque
+/// next, and at the board where no deque has a task, whatever its own task told, and takes one task for itself, so that it has
+/// none to tell of where one became ready; of each further one, one more worker is told.
 /// Tasks that go on anew without a step are told of by `tell_all`.
 pub(crate) fn tell_news(news: &News, ready: u64) {
     if ready <= 1 {

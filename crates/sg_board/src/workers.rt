@@ -26,7 +26,8 @@ use std::thread::Threads;
 ///
 /// Of `c` tasks, task `i` starts in the deque of worker `i * workers / c`, rounded down. A worker takes from its own deque,
 /// and where that is empty from the first of the others that has a task. It keeps its task as long as that goes on and lets no
-/// other go on, and sleeps while no task is ready. A task that waits is ready again once a step names it as woken, also where
+/// other go on. A task that rests lies on the board behind those that rest there already, and is taken from there by a worker
+/// that finds no task in a deque: so all that are woken come before it. A worker sleeps while no task is ready. A task that waits is ready again once a step names it as woken, also where
 /// that step came before the task was put back, and then stands in the deque of the worker that made this step; and where no
 /// task is ready or at a worker, those that wait go on anew. Where a thread cannot be started, the others take its tasks.
 /// Takes memory for each two workers and for each worker and task at the beginning, and is refused it there alone: a task that
@@ -172,8 +173,8 @@ fn run_on<T: Task, F: Fn(T) -> (T, Progress), R: Wait>(
     unreachable!()
 }
 
-/// What a worker does that found no ready task: it sleeps while others have tasks, lets those go on anew that wait where
-/// nobody has one, and ends where none waits either. False where it ends.
+/// What a worker does that found no task in a deque: it takes the one that rests longest, sleeps while others have tasks, lets
+/// those go on anew that wait where nobody has one, and ends where none waits either. False where it ends.
 fn rest<T: Task, R: Wait>(
     rt: &R,
     lock: &Lock<Board<T>>,
@@ -186,6 +187,12 @@ fn rest<T: Task, R: Wait>(
     ensures moves { HandMoves T.number hand.old hand.new (λ h. 0) (λ h. 0) }
 {
     let mut board = take(rt, lock, &mut hand.pass);
+    if board.has_resting() {
+        let resting = board.take_resting();
+        give(rt, lock, &mut hand.pass, board);
+        let _laid = lay_ready(rt, &mut hand.share, resting);
+        return true;
+    }
     if board.has_away() {
         give(rt, lock, &mut hand.pass, board);
         wait_for_news(rt, news, seen);
@@ -218,8 +225,13 @@ fn put_back<T: Task, R: Wait>(
     let woken = lay_woken(rt, &mut board, &mut hand.share, task.woken());
     let back = board.put(task, told);
     give(rt, lock, &mut hand.pass, board);
-    let ready = lay_ready(rt, &mut hand.share, back);
-    woken.saturating_add(ready)
+    let laid = lay_ready(rt, &mut hand.share, back);
+    woken.saturating_add(ready_after(told, laid))
+}
+
+/// How many tasks are ready of one that was put back after a step that told this, where so many came back: one that rests is.
+fn ready_after(told: Progress, laid: u64) -> u64 {
+    if told.rests() { 1 } else { laid }
 }
 
 /// Lets all tasks go on anew that wait. How many there are.

@@ -8,7 +8,9 @@ use std::alloc::{AllocError, Global};
 use std::sync::atomic::{AtomicU64, Ordering};
 use std::sync::{Mutex, Wait};
 use std::test::Fail;
+use std::thread;
 use std::thread::Threads;
+use std::time::{Clock, Duration};
 
 /// One of four tasks, which makes three steps.
 #[derive(Drop)]
@@ -282,6 +284,8 @@ impl Task for Link {
 struct Knot {
     shape: Shape,
     goal: u64,
+    /// Whether a task that goes on rests.
+    rests: bool,
     made: Vec<u64>,
     waits: Vec<bool>,
     /// How many steps were made of tasks that waited and were not woken.
@@ -337,6 +341,17 @@ impl Knot {
         Ok(woken)
     }
 
+    /// What the last of so many steps of a task told.
+    fn told_after(&self, made: u64) -> Progress {
+        if made >= self.goal {
+            Progress::Ended
+        } else if self.rests {
+            Progress::Rests
+        } else {
+            Progress::Goes
+        }
+    }
+
     /// One step of a task, and the tasks that it wakes.
     fn step(&mut self, alloc: Global, number: u32) -> Result<(Progress, Vec<u32>), AllocError> {
         if self.is_waiting(number) {
@@ -352,12 +367,7 @@ impl Knot {
             *place = made;
         }
         let woken = self.wake_all(alloc)?;
-        let told = if made >= self.goal {
-            Progress::Ended
-        } else {
-            Progress::Goes
-        };
-        Ok((told, woken))
+        Ok((self.told_after(made), woken))
     }
 }
 
@@ -398,11 +408,13 @@ fn pulled<R: Threads + Wait + Sync>(
     rt: &R,
     alloc: Global,
     shape: Shape,
+    rests: bool,
     workers: u32,
 ) -> Result<(u64, u64), AllocError> {
     let knot = Mutex::new(Knot {
         shape,
         goal: 5,
+        rests,
         made: Vec::from_elem(alloc, 0u64, 200)?,
         waits: Vec::from_elem(alloc, false, 200)?,
         anew: 0,
@@ -426,8 +438,225 @@ fn pulled<R: Threads + Wait + Sync>(
 fn woken_tasks_go_on(rt: HostRuntime) -> Result<(), Fail> {
     for workers in [1, 2, 8, 64] {
         for shape in [Shape::Ring, Shape::Chain, Shape::Star] {
-            assert_eq!(rt; pulled(&rt, rt.alloc(), shape, workers)?, (200, 0));
+            for rests in [false, true] {
+                assert_eq!(rt; pulled(&rt, rt.alloc(), shape, rests, workers)?, (200, 0));
+            }
         }
     }
+    Ok(())
+}
+
+/// A step of a task that is written into a list: of the task 0 they rest, rest and end, of 1 wait and end, of 2 rest and end, and of 3
+/// wake 1 and end. What the step of this place told.
+fn listed_step(number: u32, step: u32) -> Progress {
+    match (number, step) {
+        (0, 0 | 1) => Progress::Rests,
+        (1, 0) => Progress::Waits,
+        (2, 0) => Progress::Rests,
+        (3, 0) => Progress::Goes,
+        _ => Progress::Ended,
+    }
+}
+
+/// One of four tasks whose steps are listed.
+#[derive(Drop)]
+struct Listed {
+    number: u32,
+    steps: u32,
+    ghost within: { number < 4 },
+}
+
+impl Task for Listed {
+    ghost total = { 4 };
+
+    ghost number = { λ l. l.number };
+
+    fn number(&self) -> u32 {
+        self.number
+    }
+
+    fn woken(&self) -> &[u32] {
+        if self.number == 3 && self.steps == 1 {
+            &[1]
+        } else {
+            &[]
+        }
+    }
+}
+
+/// One step of a listed task, whose number is written behind those of the steps before, each as a digit from 1.
+fn write_down(order: &AtomicU64, listed: Listed) -> (Listed, Progress)
+    ensures { result.0.number ≡ listed.number }
+{
+    let Listed { number, steps } = listed;
+    let before = order.load(Ordering::SeqCst);
+    let digit = u64::from(number).wrapping_add(1);
+    order.store(
+        before.wrapping_mul(10).wrapping_add(digit),
+        Ordering::SeqCst,
+    );
+    let told = listed_step(number, steps);
+    let steps = steps.saturating_add(1);
+    (Listed { number, steps }, told)
+}
+
+/// Four listed tasks.
+fn all_listed(alloc: Global) -> Result<Vec<Listed>, AllocError>
+    ensures { IfOk result (λ v. map (λ l. l.number) v.items ≡ counting 0 4) }
+{
+    let mut list = Vec::new(alloc);
+    list.push(Listed {
+        number: 0,
+        steps: 0,
+    })?;
+    list.push(Listed {
+        number: 1,
+        steps: 0,
+    })?;
+    list.push(Listed {
+        number: 2,
+        steps: 0,
+    })?;
+    list.push(Listed {
+        number: 3,
+        steps: 0,
+    })?;
+    Ok(list)
+}
+
+#[test]
+fn tasks_that_rest_come_behind_all_that_are_ready(rt: HostRuntime) -> Result<(), Fail> {
+    let order = AtomicU64::new(0);
+    let list = all_listed(rt.alloc())?;
+    let step = |listed: Listed| -> (Listed, Progress)
+        ensures { result.0.number ≡ listed.number }
+    { write_down(&order, listed) };
+    let done = run(&rt, rt.alloc(), list, 1, &step)?;
+    assert_eq!(rt; done.len(), 4);
+    // The first steps of 0, 1, 2 and 3, then 1, which was woken, and 3 behind it, then 0, 2 and 0 again.
+    assert_eq!(rt; order.load(Ordering::SeqCst), 123_424_131);
+    Ok(())
+}
+
+/// One of two tasks: the second waits, until the first wakes it and rests. Then both meet.
+#[derive(Drop)]
+struct Sleeper {
+    number: u32,
+    steps: u32,
+    ghost within: { number < 2 },
+}
+
+impl Task for Sleeper {
+    ghost total = { 2 };
+
+    ghost number = { λ s. s.number };
+
+    fn number(&self) -> u32 {
+        self.number
+    }
+
+    fn woken(&self) -> &[u32] {
+        if self.number == 0 && self.steps == 1 {
+            &[1]
+        } else {
+            &[]
+        }
+    }
+}
+
+/// How far two tasks came.
+#[derive(Drop)]
+struct Bed {
+    /// How many have lain down.
+    waiting: AtomicU64,
+    /// How many are at their last steps.
+    last: AtomicU64,
+    /// How many went on alone.
+    alone: AtomicU64,
+}
+
+/// Waits until so many came. Whether they did in time.
+fn has_come(count: &AtomicU64, many: u64) -> bool {
+    for _turn in 0..PATIENCE {
+        if count.load(Ordering::SeqCst) >= many {
+            return true;
+        }
+    }
+    false
+}
+
+/// The first step of one of two tasks: the first lets time pass, once the second waits, so that its worker sleeps.
+fn lie_down<R: Wait + Clock>(rt: &R, bed: &Bed, number: u32) -> Progress {
+    if number > 0 {
+        bed.waiting.fetch_add(1, Ordering::SeqCst);
+        return Progress::Waits;
+    }
+    if !has_come(&bed.waiting, 1) {
+        bed.alone.fetch_add(1, Ordering::SeqCst);
+    }
+    thread::sleep(rt, Duration::from_millis(30));
+    Progress::Rests
+}
+
+/// The last step of one of two tasks, which waits for that of the other.
+fn get_up(bed: &Bed) -> Progress {
+    bed.last.fetch_add(1, Ordering::SeqCst);
+    if !has_come(&bed.last, 2) {
+        bed.alone.fetch_add(1, Ordering::SeqCst);
+    }
+    Progress::Ended
+}
+
+/// One step of one of two tasks.
+fn sleep_on<R: Wait + Clock>(rt: &R, bed: &Bed, sleeper: Sleeper) -> (Sleeper, Progress)
+    ensures { result.0.number ≡ sleeper.number }
+{
+    let Sleeper { number, steps } = sleeper;
+    let told = if steps == 0 {
+        lie_down(rt, bed, number)
+    } else {
+        get_up(bed)
+    };
+    let steps = steps.saturating_add(1);
+    (Sleeper { number, steps }, told)
+}
+
+/// Two tasks of which one waits.
+fn sleepers(alloc: Global) -> Result<Vec<Sleeper>, AllocError>
+    ensures { IfOk result (λ v. map (λ s. s.number) v.items ≡ counting 0 2) }
+{
+    let mut list = Vec::new(alloc);
+    list.push(Sleeper {
+        number: 0,
+        steps: 0,
+    })?;
+    list.push(Sleeper {
+        number: 1,
+        steps: 0,
+    })?;
+    Ok(list)
+}
+
+/// How many tasks went on alone, and how many came back.
+fn slept<R: Threads + Wait + Clock + Sync>(
+    rt: &R,
+    alloc: Global,
+) -> Result<(u64, usize), AllocError> {
+    let bed = Bed {
+        waiting: AtomicU64::new(0),
+        last: AtomicU64::new(0),
+        alone: AtomicU64::new(0),
+    };
+    let list = sleepers(alloc)?;
+    let step = |sleeper: Sleeper| -> (Sleeper, Progress)
+        ensures { result.0.number ≡ sleeper.number }
+    { sleep_on(rt, &bed, sleeper) };
+    let done = run(rt, alloc, list, 2, &step)?;
+    Ok((bed.alone.load(Ordering::SeqCst), done.len()))
+}
+
+#[test]
+fn a_worker_that_sleeps_takes_what_rests(rt: HostRuntime) -> Result<(), Fail> {
+    assert_eq!(rt; slept(&rt, rt.alloc())?, (0, 2));
     Ok(())
 }

@@ -1,6 +1,6 @@
 -- The nodes of a tree of paths, and the words that may follow them.
-use Rattle.std.specs.Prelude.{◌≡◌, ℕ, ◌<◌, List, ◌∷◌, ◌↔◌, false, IsTrue, length, slice_index_or}
-use Rattle.std.specs.List.{list_any}
+use Rattle.std.specs.Prelude.{◌≡◌, ℕ, ◌<◌, ◌≤◌, ◌⊎◌, List, ◌∷◌, ◌↔◌, false, IsTrue, length, slice_index_or}
+use Rattle.std.specs.List.{AllByRecursion, list_any}
 use Rattle.sg_base.specs.declared.scope.Scope.{Scope}
 use Rattle.sg_base.specs.Scope.{is_scope}
 use Rattle.sg_base.specs.declared.step.Step.{Step}
@@ -44,10 +44,35 @@ IsPassed passed t = IsTrue (list_any (is_scope t) passed)
 abbrev pub StayPassed : List Scope → List Scope → Type 0
 StayPassed old new = (t : Scope) → IsPassed old t → IsPassed new t
 
+-- up to how many nodes no scope is kept as passed
+abbrev pub few_nodes : ℕ
+few_nodes = 32
+
+-- there are no more than a few
+abbrev pub AreFew : {X : Type 0} → List X → Type 0
+AreFew xs = length xs ≤ few_nodes
+
+-- the scope where each of these nodes ends is passed
+abbrev pub EndsPass : List Scope → List Node → Type 0
+EndsPass passed nodes = AllByRecursion (λ n. IsPassed passed n.step.to) nodes
+
+-- but for the first, each goes on from one before it
+abbrev pub GoOnFromBefore : List NodeOf → Type 0
+GoOnFromBefore items = (i : ℕ) (n : NodeOf) → 0 < i → i < length items → n ≡ slice_index_or items i n → n.parent < i
+
 -- but for the first, each goes on from one before it, and the scope where that one ends is passed
 abbrev pub ParentsPass : List Scope → List NodeOf → Type 0
 ParentsPass passed items =
     (i : ℕ) (n : NodeOf) → 0 < i → i < length items → n ≡ slice_index_or items i n → (n.parent < i) × ((m : NodeOf) → m ≡ slice_index_or items n.parent m → IsPassed passed m.step.to)
+
+-- each goes on from one before it; where there are more than a few, the scopes that they go on from are passed, and so is the last one
+abbrev pub ArePassed : List Scope → Scope → List NodeOf → Type 0
+ArePassed passed last items = GoOnFromBefore items × (AreFew items ⊎ (ParentsPass passed items × IsPassed passed last))
+
+-- before one more node comes: there is room for it among a few; or this scope and the last one are passed, and so are the ends of a few
+abbrev pub HasPassed : List Scope → Scope → Scope → List NodeOf → Type 0
+HasPassed passed last from items =
+    (length items < few_nodes) ⊎ (IsPassed passed last × IsPassed passed from × (length items ≡ few_nodes → AllByRecursion (λ n. IsPassed passed n.step.to) items))
 
 -- the node at this place does not end at the scope, and neither does one that another goes on from
 abbrev pub EndElsewhere : List NodeOf → ℕ → Scope → Type 0

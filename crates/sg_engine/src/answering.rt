@@ -32,8 +32,8 @@ fn found_tree<I: Instance>(
     Ok(FoundTree::of(paths, found))
 }
 
-/// The answer by what was found. Where the order has a pair, found paths whose data have one key are compared, each with
-/// each; and the paths are sorted.
+/// The answer by what was found. Where the order has a pair, found paths are compared with their neighbours, and of those that
+/// are left each two whose data have one key; and the paths are sorted.
 pub fn answer_of<I: Instance>(
     alloc: Global,
     tree: &Tree<I::Datum>,

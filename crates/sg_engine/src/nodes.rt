@@ -1,7 +1,7 @@
-ghost use Rattle.std.specs.Prelude.{false, ◌≡◌, ◌<◌, ◌^◌, [], ◌∷◌, ◌++◌, length, take, slice_index_or, IfOk, OnOk, OnErr};
+ghost use Rattle.std.specs.Prelude.{false, ◌≡◌, ◌<◌, ◌^◌, ◌⊎◌, [], ◌∷◌, ◌++◌, length, map, take, slice_index_or, IfOk, OnOk, OnErr};
 ghost use Rattle.std.specs.Arc.{arc_value};
-ghost use Rattle.sg_expr.specs.Positions.{first_of};
-ghost use Rattle.sg_engine.specs.Nodes.{NodeOf, IsRestAfter, IsPassed, StayPassed, EndElsewhere};
+ghost use Rattle.sg_expr.specs.Positions.{PositionsOf, first_of};
+ghost use Rattle.sg_engine.specs.Nodes.{NodeOf, node_by, IsRestAfter, AreFew, IsPassed, StayPassed, EndsPass, HasPassed, EndElsewhere};
 
 use sg_base::{Label, Scope, Step};
 use sg_expr::Positions;
@@ -9,6 +9,9 @@ use std::alloc::{AllocError, Global};
 use std::collections::HashSet;
 use std::marker::Model;
 use std::sync::Arc;
+
+/// Up to how many paths there is no set of passed scopes, since a walk up a path costs less.
+const FEW_NODES: usize = 32;
 
 /// A path as another path with one more step, by the place of that path's node, and the set of positions whose words may
 /// follow its word.
@@ -20,8 +23,8 @@ pub struct Node {
 }
 
 /// Paths that share their fronts, each with the words that may follow its word. The first node stands for the path with no
-/// step, and its step ends at the start. The start is `passed`, and so is each scope once a path goes on from it; `last` was
-/// put there last.
+/// step, and its step ends at the start. Once there are more than a few, each scope that a path goes on from is `passed`, and
+/// `last` was put there last; until then no set is made.
 #[derive(Drop)]
 pub struct Nodes {
     words: Arc<Positions, Global>,
@@ -33,17 +36,17 @@ pub struct Nodes {
 impl Model for Nodes {
     ghost use Rattle.std.specs.Prelude.{map};
     ghost use Rattle.std.specs.Arc.{arc_value};
-    ghost use Rattle.sg_engine.specs.Nodes.{NodesOf, node_by, IsPassed, ParentsPass};
+    ghost use Rattle.sg_engine.specs.Nodes.{NodesOf, node_by, ArePassed};
 
     ghost Value = { NodesOf };
 
     ghost view = { λ n. record { words = arc_value n.words; items = map (node_by (arc_value n.words)) n.nodes.items } };
 
-    ghost invariant = { λ n. ParentsPass n.passed.keys (map (node_by (arc_value n.words)) n.nodes.items) × IsPassed n.passed.keys n.last };
+    ghost invariant = { λ n. ArePassed n.passed.keys n.last (map (node_by (arc_value n.words)) n.nodes.items) };
 }
 
 /// Puts a scope among those that are passed, unless it was put there last. After want of memory they are what they were.
-fn pass(passed: &mut HashSet<Scope>, last: &mut Scope, from: Scope) -> Result<(), AllocError>
+fn pass_one(passed: &mut HashSet<Scope>, last: &mut Scope, from: Scope) -> Result<(), AllocError>
     requires { IsPassed passed.old.keys last.old }
     ensures stay { StayPassed passed.old.keys passed.new.keys }
     ensures last { IsPassed passed.new.keys last.new }
@@ -52,6 +55,48 @@ fn pass(passed: &mut HashSet<Scope>, last: &mut Scope, from: Scope) -> Result<()
     if from != *last {
         passed.insert(from)?;
         *last = from;
+    }
+    Ok(())
+}
+
+/// Puts the scopes where nodes end among those that are passed, and a scope last.
+fn pass_all(
+    passed: &mut HashSet<Scope>,
+    last: &mut Scope,
+    nodes: &[Node],
+    from: Scope,
+) -> Result<(), AllocError>
+    ensures stay { StayPassed passed.old.keys passed.new.keys }
+    ensures last { OnOk result (IsPassed passed.new.keys last.new) }
+    ensures from { OnOk result (IsPassed passed.new.keys from) }
+    ensures ends { OnOk result (EndsPass passed.new.keys nodes.now) }
+{
+    for node in nodes {
+        passed.insert(node.step.to)?;
+    }
+    passed.insert(from)?;
+    *last = from;
+    Ok(())
+}
+
+/// Puts a scope from which a path goes on among those that are passed, before that path is added to these nodes: none while
+/// there are few, and the ends of all of them with the first that is no longer one of a few.
+fn pass(
+    passed: &mut HashSet<Scope>,
+    last: &mut Scope,
+    nodes: &[Node],
+    from: Scope,
+) -> Result<(), AllocError>
+    requires { AreFew nodes.now ⊎ IsPassed passed.old.keys last.old }
+    ensures stay { StayPassed passed.old.keys passed.new.keys }
+    ensures last { AreFew nodes.now ⊎ IsPassed passed.new.keys last.new }
+    ensures ok { (words : PositionsOf) → OnOk result (HasPassed passed.new.keys last.new from (map (node_by words) nodes.now)) }
+{
+    if nodes.len() > FEW_NODES {
+        return pass_one(passed, last, from);
+    }
+    if nodes.len() == FEW_NODES {
+        return pass_all(passed, last, nodes, from);
     }
     Ok(())
 }
@@ -74,12 +119,10 @@ impl Nodes {
             step,
             set,
         })?;
-        let mut passed = HashSet::new(alloc);
-        passed.insert(last)?;
         Ok(Nodes {
             words,
             nodes,
-            passed,
+            passed: HashSet::new(alloc),
             last,
         })
     }
@@ -100,12 +143,15 @@ impl Nodes {
         &self.nodes[place]
     }
 
-    /// Whether the node at a place ends at the scope, or the scope was passed. Takes constant time, as is expected of a
-    /// hash.
+    /// Whether the node at a place ends at the scope, or the scope was passed; always where there are few nodes. Takes
+    /// constant time, as is expected of a hash.
     pub fn may_pass(&self, place: usize, t: Scope) -> bool
         requires { place < length self.now.items }
         ensures { result ≡ false → EndElsewhere self.now.items place t }
     {
+        if self.nodes.len() <= FEW_NODES {
+            return true;
+        }
         self.nodes[place].step.to == t || self.passed.contains(&t)
     }
 
@@ -124,7 +170,8 @@ impl Nodes {
         self.words.step(self.nodes[place].set, l)
     }
 
-    /// Adds a path with one more step, which the words of this set follow. The scope that it goes on from is passed then.
+    /// Adds a path with one more step, which the words of this set follow. Unless there are few, the scope that it goes on
+    /// from is passed then.
     pub fn push(&mut self, parent: usize, step: Step, set: u64) -> Result<(), AllocError>
         requires { parent < length self.old.items }
         ensures words { self.new.words ≡ self.old.words }
@@ -132,7 +179,8 @@ impl Nodes {
         ensures err { OnErr result (self.new.items ≡ self.old.items) }
     {
         let from = self.nodes[parent].step.to;
-        pass(&mut self.passed, &mut self.last, from)?;
+        let nodes = self.nodes.as_slice();
+        pass(&mut self.passed, &mut self.last, nodes, from)?;
         self.nodes.push(Node { parent, step, set })?;
         Ok(())
     }

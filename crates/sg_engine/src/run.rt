@@ -109,6 +109,12 @@ pub fn go_on<I: Instance>(
     match run_on::<I>(alloc, tree, h, pred, MOST_ITEMS)? {
         Run::Many => Ok(Progress::Ready),
         Run::Free => Ok(Progress::Moved),
-        Run::Over(left) => look_again::<I>(alloc, tree, h, pred, left, spent),
+        Run::Over(left) => {
+            if tree.blocked.is_empty() {
+                Ok(Progress::Ready)
+            } else {
+                look_again::<I>(alloc, tree, h, pred, left, spent)
+            }
+        }
     }
 }

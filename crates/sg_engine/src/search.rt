@@ -21,8 +21,8 @@ use std::snapshot::Snapshot;
 /// A search for the answer of a query in a held graph, which keeps what it has explored from one advance to the next.
 ///
 /// The paths that it found share their fronts, and each has the set of positions at which its words may go on. An item costs
-/// a look-up and what it adds: a node for each new path, and a look-up for each target, with a walk up the path where some
-/// path went on from the target. After want of memory the search is what it was.
+/// a look-up and what it adds: a node for each new path, and a look-up for each target, with a walk up the path where there
+/// are few or some path went on from the target. After want of memory the search is what it was.
 #[derive(Drop)]
 pub struct Search<I: Instance> {
     alloc: Global,
@@ -85,7 +85,7 @@ impl<I: Instance> Search<I> {
     ///
     /// Costs what each explored item costs, a look-up for each item that is found to be blocked, for Blocked the sorting of
     /// the needs, and for Ready the sorting of the found paths; where the kind's order has a pair, also a comparison of each
-    /// two found paths whose data have one key.
+    /// found path with its neighbours, and of each two that are left and whose data have one key.
     pub fn advance(&mut self, h: &Held<I>, t: &KindTable) -> Result<Progress, AllocError>
         requires table { IsOfTable t.now self.old }
         requires start { HasScope h.now.graph self.old.query.start }

@@ -124,8 +124,8 @@ impl<D> Tree<D> {
         Ok(())
     }
 
-    /// Whether the path of a node passes by the scope nowhere. A look-up where no path goes on from the scope; otherwise a
-    /// walk up the node's parents, which takes the time of the path's length.
+    /// Whether the path of a node passes by the scope nowhere. A look-up where no path goes on from the scope; otherwise, and
+    /// where there are few paths, a walk up the node's parents, which takes the time of the path's length.
     pub fn is_fresh_at(&self, place: usize, t: Scope) -> bool
         requires tree { (e : ExprOf) × IsTree e self.now }
         requires there { place < length self.now.nodes.items }

@@ -192,7 +192,7 @@ fn table_of(alloc: Global, expr: Expr) -> Result<Option<KindTable>, AllocError> 
     Ok(Some(KindTable::new(alloc, kinds)?))
 }
 
-/// Advances a search while it moves, up to 100 times: how often it moved, and what it answered then.
+/// Advances a search while it moves, up to 200 times: how often it moved, and what it answered then.
 fn advance_on<I: Instance>(
     search: &mut Search<I>,
     held: &Held<I>,
@@ -207,7 +207,7 @@ fn advance_on<I: Instance>(
     ensures ready { IfOk result (λ r. r.1 ≡ Ready → IsSome search.new.answer) }
 {
     let mut moved = 0;
-    for _n in 0..100u32 {
+    for _n in 0..200u32 {
         match search.advance(held, table)? {
             Progress::Moved => moved += 1,
             Progress::Blocked => return Ok((moved, Progress::Blocked)),
@@ -506,7 +506,7 @@ fn open_rows_and_unset_data_block(rt: HostRuntime) -> Result<(), Fail> {
     Ok(())
 }
 
-/// The answer of a search for a number from the first scope of a held graph, if 100 advances find it, and how often it moved.
+/// The answer of a search for a number from the first scope of a held graph, if 200 advances find it, and how often it moved.
 fn answer_in(
     alloc: Global,
     table: &KindTable,
@@ -525,7 +525,7 @@ fn answer_in(
     }
 }
 
-/// The answer of a search for a number from the first scope of an opening, if 100 advances find it, and how often it moved.
+/// The answer of a search for a number from the first scope of an opening, if 200 advances find it, and how often it moved.
 fn answer_of(
     alloc: Global,
     o: Opening<u64>,
@@ -555,9 +555,9 @@ fn has_one_step(alloc: Global, found: &FoundPaths<u64>) -> Result<bool, AllocErr
     Ok(*only.datum == 41 && path.start() == scope(0) && path.steps() == [step].as_slice())
 }
 
-/// Whether one advance of a search finds the datum 41 behind a closed row with 70 targets.
+/// Whether one advance of a search finds the datum 41 behind a closed row with 65 targets.
 fn is_found_at_once(alloc: Global) -> Result<bool, Fail> {
-    let o = star(alloc, 70)?;
+    let o = star(alloc, 65)?;
     match answer_of(alloc, o, Expr::One(Label::new(0)), 41)? {
         Some((0, Answer::Paths(found))) => Ok(has_one_step(alloc, &found)?),
         _ => Ok(false),
@@ -621,5 +621,52 @@ fn has_both_branches(alloc: Global) -> Result<bool, Fail> {
 #[test]
 fn an_answer_has_each_branch_of_a_chain(rt: HostRuntime) -> Result<(), Fail> {
     assert!(rt; has_both_branches(rt.alloc())?);
+    Ok(())
+}
+
+/// Ten diamonds in a row, each from scope 3 k over two to scope 3 k + 3, and further edges from scope 0. Scope 28 has the
+/// datum 7.
+fn diamonds(alloc: Global, further: u32) -> Result<Opening<u64>, AllocError> {
+    let a = Label::new(0);
+    let mut o = star(alloc, 0)?;
+    for n in 1..31u32 {
+        o.scopes.push(scope(n))?;
+    }
+    for k in 0..10u32 {
+        for side in [1, 2] {
+            o.edges.push((scope(3 * k), a, scope(3 * k + side)))?;
+            o.edges.push((scope(3 * k + side), a, scope(3 * k + 3)))?;
+        }
+    }
+    for k in 0..further {
+        let to = scope(k.saturating_add(100));
+        o.scopes.push(to)?;
+        o.edges.push((scope(0), a, to))?;
+    }
+    o.given.push((scope(28), 7))?;
+    Ok(o)
+}
+
+/// How many paths a search through the diamonds finds, unless too many go on.
+fn found_in_diamonds(alloc: Global, further: u32) -> Result<Option<Option<usize>>, Fail> {
+    let o = diamonds(alloc, further)?;
+    let zeros = Expr::Star(Box::new(alloc, Expr::One(Label::new(0)))?);
+    match answer_of(alloc, o, zeros, 7)? {
+        Some((_, Answer::Paths(found))) => Ok(Some(Some(found.len()))),
+        Some((_, Answer::TooMany)) => Ok(Some(None)),
+        None => Ok(None),
+    }
+}
+
+#[test]
+fn a_search_looks_at_4096_paths_that_go_on(rt: HostRuntime) -> Result<(), Fail> {
+    let alloc = rt.alloc();
+    for (further, found) in [(0, Some(512)), (3, Some(512)), (4, None)] {
+        assert_eq!(rt;
+            found_in_diamonds(alloc, further)?,
+            Some(found),
+            "with {further} further edges"
+        );
+    }
     Ok(())
 }

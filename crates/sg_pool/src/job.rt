@@ -6,7 +6,7 @@ use crate::doing::Doing;
 use crate::running::{Running, step};
 use crate::site::Site;
 use sg_board::{Progress, Task};
-use sg_unit::{Desk, Gate, Unit};
+use sg_unit::{Desk, Gate, Seat, Unit};
 use std::alloc::{AllocError, Global};
 use std::marker::{Model, PhantomData};
 use std::sync::Wait;
@@ -140,14 +140,26 @@ fn step_on<
     ensures fixed { U.fixed running.new.unit ≡ U.fixed running.old.unit }
 {
     match step::<U, K, G, R>(rt, running, desk, gate) {
-        Ok(After::Goes) => match running.doing() {
-            Doing::HasEnded => Progress::Ended,
-            Doing::Gives => Progress::Goes,
-            Doing::Advances => Progress::Goes,
-            Doing::Takes => Progress::Goes,
-        },
+        Ok(After::Goes) => goes_on(running),
         Ok(After::Waits) => Progress::Waits,
         Ok(After::IsStuck) => Progress::StopsAll,
         Err(_) => Progress::StopsAll,
+    }
+}
+
+/// What a step told of a unit that waits for nothing: one that has written would rather be behind the others.
+fn goes_on<U: Unit, S: Seat<Inst = U::Inst, Outcome = U::Outcome>>(
+    running: &Running<U, S>,
+) -> Progress {
+    let going = if running.has_written() {
+        Progress::Rests
+    } else {
+        Progress::Goes
+    };
+    match running.doing() {
+        Doing::HasEnded => Progress::Ended,
+        Doing::Gives => going,
+        Doing::Advances => going,
+        Doing::Takes => going,
     }
 }

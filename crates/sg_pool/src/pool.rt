@@ -17,7 +17,8 @@ use std::thread::Threads;
 /// waits. The units are listed by the numbers of their seats, which come back in the same order. Want of memory may be met at
 /// any step; the units and their seats are gone then.
 ///
-/// A worker has one unit in hand at a time, and keeps it as long as that goes on. A unit that waits is in nobody's hand until
+/// A worker has one unit in hand at a time, and keeps it as long as that goes on. A unit that has given the last write of a
+/// group (`Unit::has_written`) goes on once no other unit is ready but such as have written too. A unit that waits is in nobody's hand until
 /// another unit's reply names it as woken. Where no unit is ready or in hand, those that wait go on anew: at a desk that
 /// tells them to wait for ever, this does not return. Where a thread cannot be started, the other workers take its units.
 /// The gate is told of each step of a unit before and after it, and of steps of several units at once. Each step costs what

@@ -84,6 +84,11 @@ impl<U: Unit, S: Seat<Inst = U::Inst, Outcome = U::Outcome>> Running<U, S> {
         self.stuck
     }
 
+    /// Whether the unit's last call gave the last write of a group (`Unit::has_written`).
+    pub fn has_written(&self) -> bool {
+        self.unit.has_written()
+    }
+
     /// What comes next for the unit. Where that is nothing, it has ended, and takes no step. Constant time.
     pub fn doing(&self) -> Doing
         ensures { result ≡ self.now.doing }

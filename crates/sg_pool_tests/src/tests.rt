@@ -18,15 +18,71 @@ use std::sync::atomic::{AtomicU64, Ordering};
 use std::test::Fail;
 use std::thread::Threads;
 
-/// One of four units: it makes two scopes, and ends with 7.
+/// How many times somebody looks whether the others came.
+const PATIENCE: u64 = 1_000_000_000;
+
+/// Where each of three steps waits for the same step of others.
 #[derive(Drop)]
-struct Maker {
+struct Steps {
+    /// How many have to come to a step.
+    wanted: u64,
+    first: AtomicU64,
+    second: AtomicU64,
+    third: AtomicU64,
+    /// How many steps went on though not all had come.
+    alone: AtomicU64,
+}
+
+/// Comes to a step, and waits until so many came. Whether they did in time.
+fn meets(count: &AtomicU64, wanted: u64) -> bool {
+    count.fetch_add(1, Ordering::SeqCst);
+    for _turn in 0..PATIENCE {
+        if count.load(Ordering::SeqCst) >= wanted {
+            return true;
+        }
+    }
+    false
+}
+
+impl Steps {
+    fn of(wanted: u64) -> Steps {
+        Steps {
+            wanted,
+            first: AtomicU64::new(0),
+            second: AtomicU64::new(0),
+            third: AtomicU64::new(0),
+            alone: AtomicU64::new(0),
+        }
+    }
+
+    /// Comes to the step with a number from 1 to 3, and waits for the others, unless some step went on alone before.
+    fn meet(&self, step: u64) {
+        if self.alone.load(Ordering::SeqCst) > 0 {
+            return;
+        }
+        let count = match step {
+            1 => &self.first,
+            2 => &self.second,
+            _ => &self.third,
+        };
+        if !meets(count, self.wanted) {
+            self.alone.fetch_add(1, Ordering::SeqCst);
+        }
+    }
+}
+
+/// One of four units: it makes two scopes, and ends with 7. One that rests has written once it gave its second scope. Each call of
+/// its `next` waits for the same call of others.
+#[derive(Drop)]
+struct Maker<'a> {
     number: u32,
     given: u8,
+    rests: bool,
+    calls: &'a Steps,
     ghost within: { number < 4 },
 }
 
-impl Unit for Maker {
+impl<'a> Unit for Maker<'a> {
     ghost use Rattle.std.specs.Prelude.{[], ◌-◌};
     ghost use Rattle.sg_pool.specs.Example.{four};
     ghost use Rattle.sg_unit.specs.Example.{MakerStands};
@@ -61,6 +117,10 @@ impl Unit for Maker {
         self.number
     }
 
+    fn has_written(&self) -> bool {
+        self.rests && self.given == 2
+    }
+
     fn next(&mut self, last: Option<Reply<Numbers>>) -> Result<Op<Numbers, u64>, AllocError>
         ensures gives { IfOk result (GoesOn (setting_of (λ p d. p == d) (λ a b. a == b) four []) self.old.number (MakerStands 7 self.old.given) (MakerStands 7 self.new.given) last) }
         ensures owed { IfOk result (GivesAny (setting_of (λ p d. p == d) (λ a b. a == b) four []) self.old.number (MakerStands 7 self.old.given) last) }
@@ -69,6 +129,7 @@ impl Unit for Maker {
         ensures number { self.new.number ≡ self.old.number }
     {
         let _handed = last;
+        self.calls.meet(u64::from(self.given) + 1);
         match self.given {
             0 => {
                 self.given = 1;
@@ -231,13 +292,18 @@ impl Desk for OwnDesk {
 }
 
 /// A new unit at its seat.
-fn unit_of(alloc: Global, number: u32) -> Running<Maker, OwnSeat>
+fn unit_of(alloc: Global, number: u32, rests: bool, calls: &Steps) -> Running<Maker<'_>, OwnSeat>
     requires within { number < 4 }
     ensures seat { (result.seat.number ≡ number) × (result.failed ≡ false) }
     ensures own { HasMade (λ p d. p == d) (λ a b. a == b) result.seat.number result.seat.made result.seat.log.items }
 {
     Running::new(
-        Maker { number, given: 0 },
+        Maker {
+            number,
+            given: 0,
+            rests,
+            calls,
+        },
         OwnSeat {
             alloc,
             number,
@@ -249,29 +315,35 @@ fn unit_of(alloc: Global, number: u32) -> Running<Maker, OwnSeat>
 }
 
 /// Four new units.
-fn units(alloc: Global) -> Result<Vec<Running<Maker, OwnSeat>>, AllocError>
+fn units(
+    alloc: Global,
+    rests: bool,
+    calls: &Steps,
+) -> Result<Vec<Running<Maker<'_>, OwnSeat>>, AllocError>
     ensures numbered { IfOk result (λ v. AreNumbered (λ s. s.number) v.items) }
     ensures seats { IfOk result (λ v. All (λ r. HasMade (λ p d. p == d) (λ a b. a == b) r.seat.number r.seat.made r.seat.log.items × (r.failed ≡ false)) v.items) }
 {
     let mut list = Vec::new(alloc);
-    list.push(unit_of(alloc, 0))?;
-    list.push(unit_of(alloc, 1))?;
-    list.push(unit_of(alloc, 2))?;
-    list.push(unit_of(alloc, 3))?;
+    list.push(unit_of(alloc, 0, rests, calls))?;
+    list.push(unit_of(alloc, 1, rests, calls))?;
+    list.push(unit_of(alloc, 2, rests, calls))?;
+    list.push(unit_of(alloc, 3, rests, calls))?;
     Ok(list)
 }
 
-/// The seats of four units that were run at the desk.
+/// The seats of four units that were run at the desk, whose calls of `next` meet there.
 fn pooled<G: Gate, R: Threads + Wait + Sync>(
     rt: &R,
     alloc: Global,
     desk: &OwnDesk,
+    rests: bool,
+    calls: &Steps,
     workers: u32,
     gate: &G,
 ) -> Result<Vec<OwnSeat>, AllocError>
     requires { 1 ≤ workers }
 {
-    let team = units(alloc)?;
+    let team = units(alloc, rests, calls)?;
     run_pool::<Maker, OwnDesk, G, R>(rt, alloc, desk, team, workers, gate)
 }
 
@@ -317,42 +389,17 @@ fn whole(seats: &[OwnSeat]) -> Option<u32> {
     Some(number)
 }
 
-/// How many times a unit looks whether the others came.
-const PATIENCE: u64 = 1_000_000_000;
-
 /// A gate at which each step waits for the same step of all four units.
 #[derive(Drop)]
 struct Hall {
-    first: AtomicU64,
-    second: AtomicU64,
-    third: AtomicU64,
-    /// How many steps went on alone.
-    alone: AtomicU64,
+    steps: Steps,
     /// How many steps were answered.
     answered: AtomicU64,
 }
 
-/// Waits until four came. Whether they did in time.
-fn meets(count: &AtomicU64) -> bool {
-    count.fetch_add(1, Ordering::SeqCst);
-    for _turn in 0..PATIENCE {
-        if count.load(Ordering::SeqCst) >= 4 {
-            return true;
-        }
-    }
-    false
-}
-
 impl Gate for Hall {
     fn before(&self, _unit: u32, step: u64) {
-        let count = match step {
-            1 => &self.first,
-            2 => &self.second,
-            _ => &self.third,
-        };
-        if !meets(count) {
-            self.alone.fetch_add(1, Ordering::SeqCst);
-        }
+        self.steps.meet(step);
     }
 
     fn answered(&self, _unit: u32, _step: u64) {
@@ -363,15 +410,15 @@ impl Gate for Hall {
 #[test]
 fn workers_run_at_once(rt: HostRuntime) -> Result<(), Fail> {
     let hall = Hall {
-        first: AtomicU64::new(0),
-        second: AtomicU64::new(0),
-        third: AtomicU64::new(0),
-        alone: AtomicU64::new(0),
+        steps: Steps::of(4),
         answered: AtomicU64::new(0),
     };
-    let seats = pooled(&rt, rt.alloc(), &OwnDesk::new(u64::MAX), 4, &hall)?;
+    let calls = Steps::of(4);
+    let desk = OwnDesk::new(u64::MAX);
+    let seats = pooled(&rt, rt.alloc(), &desk, false, &calls, 4, &hall)?;
     assert_eq!(rt; whole(seats.as_slice()), Some(4));
-    assert_eq!(rt; hall.alone.load(Ordering::SeqCst), 0);
+    assert_eq!(rt; hall.steps.alone.load(Ordering::SeqCst), 0);
+    assert_eq!(rt; calls.alone.load(Ordering::SeqCst), 0);
     assert_eq!(rt; hall.answered.load(Ordering::SeqCst), 12);
     Ok(())
 }
@@ -425,9 +472,13 @@ fn each_worker_starts_with_its_own_units(rt: HostRuntime) -> Result<(), Fail> {
         high: AtomicU64::new(0),
         alone: AtomicU64::new(0),
     };
-    let seats = pooled(&rt, rt.alloc(), &OwnDesk::new(u64::MAX), 2, &halves)?;
+    let calls = Steps::of(1);
+    let desk = OwnDesk::new(u64::MAX);
+    let seats = pooled(&rt, rt.alloc(), &desk, false, &calls, 2, &halves)?;
     assert_eq!(rt; whole(seats.as_slice()), Some(4));
     assert_eq!(rt; halves.alone.load(Ordering::SeqCst), 0);
+    assert_eq!(rt; halves.low.load(Ordering::SeqCst), 2);
+    assert_eq!(rt; halves.high.load(Ordering::SeqCst), 2);
     Ok(())
 }
 
@@ -436,7 +487,8 @@ fn want_of_memory_is_told(rt: HostRuntime) -> Result<(), Fail> {
     for workers in [1, 2, 8] {
         for short_at in 0..12 {
             let desk = OwnDesk::new(short_at);
-            let seats = pooled(&rt, rt.alloc(), &desk, workers, &NoGate);
+            let calls = Steps::of(1);
+            let seats = pooled(&rt, rt.alloc(), &desk, false, &calls, workers, &NoGate);
             assert!(rt; seats.is_err());
             assert!(rt; desk.calls.load(Ordering::SeqCst) > short_at);
         }
@@ -447,10 +499,86 @@ fn want_of_memory_is_told(rt: HostRuntime) -> Result<(), Fail> {
 #[test]
 fn seats_come_back_in_order(rt: HostRuntime) -> Result<(), Fail> {
     for workers in [1, 2, 8] {
-        let desk = OwnDesk::new(12);
-        let seats = pooled(&rt, rt.alloc(), &desk, workers, &NoGate)?;
-        assert_eq!(rt; whole(seats.as_slice()), Some(4));
-        assert_eq!(rt; desk.calls.load(Ordering::SeqCst), 12);
+        for rests in [false, true] {
+            let desk = OwnDesk::new(12);
+            let calls = Steps::of(1);
+            let seats = pooled(&rt, rt.alloc(), &desk, rests, &calls, workers, &NoGate)?;
+            assert_eq!(rt; whole(seats.as_slice()), Some(4));
+            assert_eq!(rt; desk.calls.load(Ordering::SeqCst), 12);
+        }
     }
+    Ok(())
+}
+
+/// A gate that writes the unit of each step behind those of the steps before, each as a digit from 1.
+#[derive(Drop)]
+struct Order {
+    units: AtomicU64,
+}
+
+impl Gate for Order {
+    fn before(&self, unit: u32, _step: u64) {
+        let before = self.units.load(Ordering::SeqCst);
+        let digit = u64::from(unit).wrapping_add(1);
+        self.units.store(
+            before.wrapping_mul(10).wrapping_add(digit),
+            Ordering::SeqCst,
+        );
+    }
+
+    fn answered(&self, _unit: u32, _step: u64) {}
+}
+
+#[test]
+fn units_that_have_written_come_behind_the_others(rt: HostRuntime) -> Result<(), Fail> {
+    for (rests, order) in [(false, 111_222_333_444), (true, 112_233_441_234)] {
+        let gate = Order {
+            units: AtomicU64::new(0),
+        };
+        let calls = Steps::of(1);
+        let desk = OwnDesk::new(u64::MAX);
+        let seats = pooled(&rt, rt.alloc(), &desk, rests, &calls, 1, &gate)?;
+        assert_eq!(rt; whole(seats.as_slice()), Some(4));
+        assert_eq!(rt; gate.units.load(Ordering::SeqCst), order);
+    }
+    Ok(())
+}
+
+/// A gate at which the last step of a unit waits for that of another.
+#[derive(Drop)]
+struct Pair {
+    last: AtomicU64,
+    /// How many units went on alone.
+    alone: AtomicU64,
+}
+
+impl Gate for Pair {
+    fn before(&self, _unit: u32, step: u64) {
+        if step != 3 {
+            return;
+        }
+        self.last.fetch_add(1, Ordering::SeqCst);
+        for _turn in 0..PATIENCE {
+            if self.last.load(Ordering::SeqCst) >= 2 {
+                return;
+            }
+        }
+        self.alone.fetch_add(1, Ordering::SeqCst);
+    }
+
+    fn answered(&self, _unit: u32, _step: u64) {}
+}
+
+#[test]
+fn two_workers_take_units_that_have_written(rt: HostRuntime) -> Result<(), Fail> {
+    let pair = Pair {
+        last: AtomicU64::new(0),
+        alone: AtomicU64::new(0),
+    };
+    let calls = Steps::of(1);
+    let desk = OwnDesk::new(u64::MAX);
+    let seats = pooled(&rt, rt.alloc(), &desk, true, &calls, 2, &pair)?;
+    assert_eq!(rt; whole(seats.as_slice()), Some(4));
+    assert_eq!(rt; pair.alone.load(Ordering::SeqCst), 0);
     Ok(())
 }

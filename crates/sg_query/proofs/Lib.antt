@@ -5,6 +5,7 @@ pub mod Examples
 pub mod Existing
 pub mod Extending
 pub mod Gathering
+pub mod Losing
 pub mod Marking
 pub mod Paths
 pub mod Placing

@@ -15,8 +15,8 @@ use std::alloc::{AllocError, Global};
 
 /// The answer of a query, by all paths of the graph that its words follow.
 ///
-/// Looks at 4,096 paths that go on at most. Where the kind's order has a pair, found paths whose data have one key are
-/// compared, each with each; and the paths are sorted.
+/// Looks at 4,096 paths that go on at most. Where the kind's order has a pair, found paths are compared with their neighbours,
+/// and of those that are left each two whose data have one key; and the paths are sorted.
 pub fn ans_plain<I: Instance>(
     alloc: Global,
     g: &Graph<I::Datum>,

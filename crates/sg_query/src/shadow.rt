@@ -1,27 +1,27 @@
-ghost use Rattle.std.specs.Prelude.{◌≡◌, ◌≢◌, ◌↔◌, ◌<◌, ◌≤◌, IsTrue, IsFalse, IfOk, OnOk, length, map, take, drop};
+ghost use Rattle.std.specs.Prelude.{◌≡◌, ◌≢◌, ◌↔◌, ◌<◌, ◌≤◌, IsTrue, IsFalse, IfOk, OnOk, length, map, take, drop, slice_index_or};
 ghost use Rattle.std.specs.List.{Contains};
 ghost use Rattle.std.specs.List.Sorted.{IsNonDecreasingBy, IsPermutation};
 ghost use Rattle.sg_base.specs.List.{IsDistinct, IsRising};
 ghost use Rattle.sg_base.specs.PathTree.{path_at};
-ghost use Rattle.sg_order.specs.Order.{precedes};
+ghost use Rattle.sg_order.specs.Order.{precedes, IsStrict};
 ghost use Rattle.sg_query.specs.declared.found_at.FoundAt.{FoundAt as FoundAtOf};
 ghost use Rattle.sg_query.specs.Answer.{found_cmp};
 ghost use Rattle.sg_query.specs.Found.{found_in, AreThere};
-ghost use Rattle.sg_query.specs.Marks.{AreMarked, MarksOn, unmarked};
+ghost use Rattle.sg_query.specs.Marks.{AreMarked, AreShadowedWhereMarked, LosesShadowed, MarksOn, unmarked};
 ghost use Rattle.sg_query.specs.Shadow.{IsShadowed, AreUnshadowed};
 
 use crate::found_at::FoundAt;
 use crate::found_paths::FoundPaths;
 use crate::found_tree::FoundTree;
-use sg_base::{Instance, PathTree};
+use sg_base::{Instance, Mark, PathTree};
 use sg_order::Order;
 use std::alloc::{AllocError, Global};
 use std::cmp::Ordering;
 
 /// The paths that no other with the same datum comes before, in rising order. They are moved and not copied.
 ///
-/// Sorts them in the time of n log n comparisons of n paths. Where the order has a pair, paths whose data have one key
-/// are compared, each with each, and no others are.
+/// Sorts them in the time of n log n comparisons of n paths. Where the order has a pair, paths that a neighbour shadows are
+/// left out, and of the others those whose data have one key are compared, each with each.
 pub fn visible_of<I: Instance>(
     alloc: Global,
     order: &Order,
@@ -67,6 +67,9 @@ fn place_in(paths: &PathTree, place: usize) -> usize
 }
 
 /// The paths that no other with the same datum comes before.
+///
+/// In the order of the search, a path that is shadowed mostly stands behind one that comes before it. Those are left out
+/// first, in the time of the steps by which neighbours differ, and what is left is compared, each with each.
 fn unshadowed_of<I: Instance>(
     alloc: Global,
     order: &Order,
@@ -80,6 +83,102 @@ fn unshadowed_of<I: Instance>(
     ensures unshadowed { IfOk result (λ r. AreUnshadowed I.same_datum (precedes order.now) (map (found_in paths.now) all.items) (map (found_in paths.now) r.items)) }
 {
     if order.is_empty() {
+        return Ok(all);
+    }
+    let keyed = by_key::<I>(all);
+    let left = unshadowed_beside::<I>(alloc, order, paths, keyed)?;
+    unshadowed_each::<I>(alloc, order, paths, left)
+}
+
+/// The paths but for those that the one in front of them in the list, or the one behind them, shadows.
+fn unshadowed_beside<I: Instance>(
+    alloc: Global,
+    order: &Order,
+    paths: &PathTree,
+    all: Vec<FoundAt<I::Datum>>,
+) -> Result<Vec<FoundAt<I::Datum>>, AllocError>
+    requires there { AreThere paths.now all.items }
+    requires once { IsDistinct (map (λ f. f.path) (map (found_in paths.now) all.items)) }
+    ensures there { IfOk result (λ r. AreThere paths.now r.items) }
+    ensures once { IfOk result (λ r. IsDistinct (map (λ f. f.path) (map (found_in paths.now) r.items))) }
+    ensures loses { IfOk result (λ r. LosesShadowed I.same_datum (precedes order.now) (map (found_in paths.now) all.items) (map (found_in paths.now) r.items)) }
+{
+    if all.len() < 2 {
+        return Ok(all);
+    }
+    let shadowed = marks_beside::<I>(alloc, order, paths, all.as_slice())?;
+    Ok(without_marked(alloc, all, shadowed.as_slice())?)
+}
+
+/// A mark for each of these paths, which is set where the one in front of it or the one behind it shadows it.
+fn marks_beside<I: Instance>(
+    alloc: Global,
+    order: &Order,
+    paths: &PathTree,
+    all: &[FoundAt<I::Datum>],
+) -> Result<Vec<bool>, AllocError>
+    requires there { AreThere paths.now all.now }
+    ensures { IfOk result (λ r. AreShadowedWhereMarked I.same_datum (precedes order.now) (map (found_in paths.now) all.now) (map (found_in paths.now) all.now) r.items) }
+{
+    let mut marks = Vec::new(alloc);
+    for k in 0..all.len() {
+        let shadowed = is_shadowed_beside::<I>(order, paths, all, k);
+        marks.push(shadowed)?;
+    }
+    Ok(marks)
+}
+
+/// Whether the path in front of this one in the list or the one behind it has the same datum and comes before it.
+fn is_shadowed_beside<I: Instance>(
+    order: &Order,
+    paths: &PathTree,
+    all: &[FoundAt<I::Datum>],
+    k: usize,
+) -> bool
+    requires there { AreThere paths.now all.now }
+    requires within { k < length all.now }
+    ensures { (f : FoundAtOf I.Datum) → f ≡ slice_index_or all.now k f → IsTrue result → IsShadowed I.same_datum (precedes order.now) (map (found_in paths.now) all.now) (found_in paths.now f) }
+{
+    if k > 0 && shadows::<I>(order, paths, all, k - 1, k) {
+        return true;
+    }
+    k + 1 < all.len() && shadows::<I>(order, paths, all, k + 1, k)
+}
+
+/// Whether the path at the first index of the list has the datum of that at the second, and comes before it.
+fn shadows<I: Instance>(
+    order: &Order,
+    paths: &PathTree,
+    all: &[FoundAt<I::Datum>],
+    j: usize,
+    k: usize,
+) -> bool
+    requires there { AreThere paths.now all.now }
+    requires first { j < length all.now }
+    requires second { k < length all.now }
+    ensures { (f : FoundAtOf I.Datum) → f ≡ slice_index_or all.now k f → IsTrue result → IsShadowed I.same_datum (precedes order.now) (map (found_in paths.now) all.now) (found_in paths.now f) }
+{
+    let other = &all[j];
+    let found = &all[k];
+    I::same(&found.datum, &other.datum) && order.place_before(paths, other.place, found.place)
+}
+
+/// The paths that no other with the same datum comes before, by comparing each with each whose datum has the same key.
+fn unshadowed_each<I: Instance>(
+    alloc: Global,
+    order: &Order,
+    paths: &PathTree,
+    all: Vec<FoundAt<I::Datum>>,
+) -> Result<Vec<FoundAt<I::Datum>>, AllocError>
+    requires there { AreThere paths.now all.items }
+    requires once { IsDistinct (map (λ f. f.path) (map (found_in paths.now) all.items)) }
+    ensures there { IfOk result (λ r. AreThere paths.now r.items) }
+    ensures once { IfOk result (λ r. IsDistinct (map (λ f. f.path) (map (found_in paths.now) r.items))) }
+    ensures unshadowed { IfOk result (λ r. AreUnshadowed I.same_datum (precedes order.now) (map (found_in paths.now) all.items) (map (found_in paths.now) r.items)) }
+    ensures strict { IsStrict (precedes order.now) }
+{
+    let _end = order.before(Mark::End, Mark::End);
+    if all.len() < 2 {
         return Ok(all);
     }
     let keyed = by_key::<I>(all);

@@ -213,6 +213,48 @@ fn the_nearest_of_equal_data_is_visible(rt: HostRuntime) -> Result<(), Fail> {
     Ok(())
 }
 
+/// The answer along a chain of 40 scopes over label 1, each of which has an edge over label 0 to a scope with the datum 7, where
+/// the one label or the other comes first.
+fn chain(alloc: Global, zero_first: bool) -> Result<Answer<u64>, Fail> {
+    let mut edges = Vec::new(alloc);
+    let mut given = Vec::new(alloc);
+    for k in 0..40u32 {
+        edges.push((k, 1, k.saturating_add(1)))?;
+        edges.push((k, 0, k.saturating_add(100)))?;
+        given.push((k.saturating_add(100), 7))?;
+    }
+    let graph = graph_of(alloc, edges.as_slice(), given.as_slice())?;
+    let (zero, one) = (Mark::Of(Label::new(0)), Mark::Of(Label::new(1)));
+    let order = if zero_first {
+        [(zero, one)]
+    } else {
+        [(one, zero)]
+    };
+    answer(alloc, &graph, ones_and_zero(alloc)?, &order, Wanted::Is(7))
+}
+
+/// How many steps the only path of an answer has.
+fn len_of_only(all: &Answer<u64>) -> Option<usize> {
+    match all {
+        Answer::TooMany => None,
+        Answer::Paths(found) => {
+            if found.len() == 1 {
+                Some(found.at(0).path.len())
+            } else {
+                None
+            }
+        }
+    }
+}
+
+#[test]
+fn one_path_along_a_chain_is_visible(rt: HostRuntime) -> Result<(), Fail> {
+    let alloc = rt.alloc();
+    assert_eq!(rt; len_of_only(&chain(alloc, true)?), Some(1));
+    assert_eq!(rt; len_of_only(&chain(alloc, false)?), Some(40));
+    Ok(())
+}
+
 /// The answer in a graph in which three paths reach data of three keys, and a fourth a datum that a nearer one has too.
 fn three_keys(alloc: Global) -> Result<Answer<u64>, Fail> {
     let edges = [

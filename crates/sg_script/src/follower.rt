@@ -29,6 +29,8 @@ pub struct Follower<S: Script> {
     pending: Writes<<S::Inst as Instance>::Datum>,
     stage: usize,
     ended: bool,
+    /// Whether the last call gave the last write of a group.
+    written: bool,
 }
 
 /// The operation that does a write.
@@ -40,6 +42,17 @@ fn op_of<I: Instance, R>(write: Write<I::Datum>) -> Op<I, R>
         Write::SetDatum { scope, datum } => Op::SetDatum { scope, datum },
         Write::CloseRow { scope, label } => Op::CloseRow { scope, label },
     }
+}
+
+/// Whether a group ends where these writes are left of the last of so many stages.
+fn ends_group<S: Script>(
+    script: &S,
+    pending: &Writes<<S::Inst as Instance>::Datum>,
+    stage: usize,
+) -> bool
+    requires { S.is_ready script.now }
+{
+    pending.len() == 0 && script.ends_group(stage)
 }
 
 impl<S: Script> Follower<S> {
@@ -57,6 +70,7 @@ impl<S: Script> Follower<S> {
             pending: Writes::new(alloc),
             stage: 0,
             ended: false,
+            written: false,
         }
     }
 
@@ -73,6 +87,7 @@ impl<S: Script> Follower<S> {
         let copy = copy_query::<S::Inst>(self.alloc, &query)?;
         self.asked = Some(query);
         self.stage = stage;
+        self.written = false;
         Ok(Op::Ask(copy))
     }
 
@@ -94,6 +109,7 @@ impl<S: Script> Follower<S> {
                     if let Some(write) = writes.take_first() {
                         self.stage = stage + 1;
                         self.pending = writes;
+                        self.written = ends_group(&self.script, &self.pending, self.stage);
                         return Ok(op_of::<S::Inst, S::Outcome>(write));
                     }
                 }
@@ -109,6 +125,7 @@ impl<S: Script> Follower<S> {
             Known::Is(outcome) => {
                 self.stage = stage;
                 self.ended = true;
+                self.written = false;
                 Ok(Op::End(outcome))
             }
         }
@@ -124,7 +141,10 @@ impl<S: Script> Follower<S> {
         ensures same { OnErr result (self.new ≡ self.old) }
     {
         match self.pending.take_first() {
-            Some(write) => Ok(op_of::<S::Inst, S::Outcome>(write)),
+            Some(write) => {
+                self.written = ends_group(&self.script, &self.pending, self.stage);
+                Ok(op_of::<S::Inst, S::Outcome>(write))
+            }
             None => self.read_on(),
         }
     }
@@ -167,6 +187,10 @@ impl<S: Script> Unit for Follower<S> {
 
     fn id(&self) -> u32 {
         self.script.id()
+    }
+
+    fn has_written(&self) -> bool {
+        self.written
     }
 
     fn next(&mut self, last: Option<Reply<S::Inst>>) -> Result<Op<S::Inst, S::Outcome>, AllocError>

@@ -43,6 +43,14 @@ pub trait Script: Drop {
         requires { is_ready self.now }
         ensures { result ≡ length (plan self.now).stages };
 
+    /// Whether a group of writes ends with the first `stage` stages, so that other units may go on first, once these are
+    /// given: all stages are one group. It changes nothing of what the unit writes. Takes no memory.
+    fn ends_group(&self, stage: usize) -> bool
+        requires { is_ready self.now }
+    {
+        stage == self.stage_count()
+    }
+
     /// Adds the reply to a query that has none.
     fn put(
         &mut self,

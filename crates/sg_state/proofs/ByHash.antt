@@ -1,26 +1,18 @@
--- Parts by hash: what a look-up finds, and what a write at a part and a new part do.
-use Rattle.std.proofs.Common.{◌≡◌, ℕ, List, [], ◌∷◌, ◌⊎◌, ◌↔◌, Bool, true, false, ◌&&◌, eqb, inl, inr, refl, sym, ap, ◌∙◌, subst, map, Option, Some, None}
-use Rattle.std.proofs.lemmas.List.Sorted.{Contains-permutation, IsPermutation-sym}
+-- Parts in any order: what a look-up finds, and what a write at a part does.
+use Rattle.std.proofs.Common.{◌≡◌, ℕ, List, ◌⊎◌, ◌↔◌, Bool, true, ◌&&◌, eqb, refl, sym, ap, ◌∙◌, subst, map, Some, None}
 use Rattle.std.proofs.lemmas.Map.{keys-set_value}
-use Rattle.std.specs.List.{Contains, IsDistinct as IsUnique}
-use Rattle.std.specs.List.Sorted.{IsPermutation}
+use Rattle.std.specs.List.{Contains}
 use Rattle.std.specs.Map.{lookup, set_value}
-use Rattle.std.specs.Option.{MatchOption}
 use Rattle.sg_base.specs.declared.scope.Scope.{Scope}
 use Rattle.sg_base.specs.List.{IsDistinct}
 use Rattle.sg_base.specs.Scope.{is_scope}
-use Rattle.sg_base.proofs.Finite.{nothing_in, Contains-head, Contains-cons, Contains-tail, each_at}
 use Rattle.sg_base.proofs.Scopes.{scope_same, same_scope, number_same, number_itself, both_true}
-use Rattle.sg_state.specs.contracts.part.PartPartialEq.TheImpl as derived
 use Rattle.sg_state.specs.declared.part.Part.{Part}
 use Rattle.sg_state.specs.declared.part.Part.TheVariants.{Keyed, Rest}
 use Rattle.sg_state.specs.Part.{HasIn, KeepsParts, AddsIn, LosesIn}
+use Rattle.sg_state.specs.SamePart.{is_part}
 use Rattle.sg_state.proofs.InParts.{rest_by, keyed_by}
 use Rattle.sg_state.proofs.Keyed.{found_there, there_found, not_there, held_adds, held_changes, held_keeps}
-
--- how parts are compared by hash
-abbrev pub is_part : Part → Part → Bool
-is_part = (derived.ghosts).eq
 
 keyed_is : (s t : Scope) (l m j k : ℕ) → is_part (Keyed s l j) (Keyed t m k) ≡ (is_scope s t && (eqb l m && eqb j k))
 keyed_is s t l m j k = refl
@@ -45,17 +37,6 @@ both a b e f = ap (λ (x : Bool). x && b) e ∙ f
 pub part_itself : (p : Part) → is_part p p ≡ true
 part_itself (Keyed s l k) = keyed_is s s l l k k ∙ both (is_scope s s) (eqb l l && eqb k k) (same_scope s s refl) (both (eqb l l) (eqb k k) (number_itself l) (number_itself k))
 part_itself (Rest s l) = rest_is s s l l ∙ both (is_scope s s) (eqb l l) (same_scope s s refl) (number_itself l)
-
-pub parts_distinct : (ps : List Part) → IsUnique is_part ps → IsDistinct ps
-unfolding IsUnique
-parts_distinct [] u = tt
-parts_distinct (p ∷ ps) u = (
-  (λ c. (
-      let no : is_part p p ≡ false = each_at (λ y. is_part p y ≡ false) ps u.0 p c in
-      let yes : is_part p p ≡ true = part_itself p in
-      cc)),
-  parts_distinct ps u.1,
-)
 
 module _ (es : List (Part × List Scope)) (once : IsDistinct (map (λ p. p.0) es)) (p : Part) where
   pub once_set : (xs : List Scope) (fs : List (Part × List Scope)) → fs ≡ set_value (is_part p) es xs → IsDistinct (map (λ q. q.0) fs)
@@ -90,16 +71,3 @@ module _ (es : List (Part × List Scope)) (once : IsDistinct (map (λ p. p.0) es
     part_keeps ys same q x =
         held_keeps is_part parts_alike part_itself es once p xs ys there (λ (zs : List Scope). Contains zs x)
         ((λ c. subst (λ (zs : List Scope). Contains zs x) same c), (λ c. subst (λ (zs : List Scope). Contains zs x) (sym same) c)) q
-
-  pub part_new : (ys : List Scope) (t : Scope) → ((x : Scope) → (Contains ys x) ↔ (Contains [] x ⊎ (x ≡ t))) → (fs : List (Part × List Scope)) → (o : Option (List Scope)) → o ≡ lookup (is_part p) es → None ≡ lookup (is_part p) es → MatchOption o (IsPermutation ((p, ys) ∷ es) fs) (λ w. fs ≡ set_value (is_part p) es ys) → AddsIn es fs p t
-  part_new ys t more fs None is none new = λ q x. (
-    (λ h. elim (Contains-cons (p, ys) (q, h.0) es (Contains-permutation fs ((p, ys) ∷ es) (q, h.0) (IsPermutation-sym ((p, ys) ∷ es) fs new) h.1)) [
-      | inl e ↦ inr (ap (λ (z : Part × List Scope). z.0) e, elim ((more x).0 (subst (λ (zs : List Scope). Contains zs x) (ap (λ (z : Part × List Scope). z.1) e) h.2)) [ inl n ↦ absurd (nothing_in x n) | inr s ↦ s ])
-      | inr m ↦ inl (h.0, m, h.2)
-    ]),
-    (λ s. elim s [
-      | inl h ↦ (h.0, Contains-permutation ((p, ys) ∷ es) fs (q, h.0) new (Contains-tail (p, ys) (q, h.0) es h.1), h.2)
-      | inr e ↦ (ys, Contains-permutation ((p, ys) ∷ es) fs (q, ys) new (subst (λ (z : Part). Contains ((p, ys) ∷ es) (z, ys)) (sym e.0) (Contains-head (p, ys) es)), (more x).1 (inr e.1))
-    ]),
-  )
-  part_new ys t more fs (Some w) is none new = absurd (let k : Some w ≡ None = is ∙ sym none in cc)

@@ -1,14 +1,14 @@
--- Entries of scopes by hash, and in rising order: what a look-up finds, and what a write at a scope and a new entry do.
-use Rattle.std.proofs.Common.{◌≡◌, List, [], ◌∷◌, ◌↔◌, Bool, true, false, inl, inr, refl, sym, ap, ◌∙◌, subst, map, Option, Some, None}
+-- Entries of scopes in any order, and in rising order: what a look-up finds, and what a write at a scope and a new entry do.
+use Rattle.std.proofs.Common.{◌≡◌, List, [], ◌∷◌, ◌++◌, ◌↔◌, Bool, true, inl, inr, refl, sym, ap, ◌∙◌, subst, map, Option, Some, None}
 use Rattle.std.proofs.lemmas.Bool.{cases_Bool}
-use Rattle.std.proofs.lemmas.List.Sorted.{Contains-permutation, IsPermutation-sym}
+use Rattle.std.proofs.lemmas.List.Sorted.{Contains-permutation, IsPermutation-sym, IsPermutation-append_comm}
+use Rattle.std.proofs.lemmas.List.{map-append}
 use Rattle.std.proofs.lemmas.Map.{keys-set_value}
 use Rattle.std.specs.BTreeMap.{is_at, insert_entry}
 use Rattle.std.specs.Cmp.{on_total}
-use Rattle.std.specs.List.{Contains, IsDistinct as IsUnique}
+use Rattle.std.specs.List.{Contains}
 use Rattle.std.specs.List.Sorted.{IsPermutation}
 use Rattle.std.specs.Map.{lookup, set_value}
-use Rattle.std.specs.Option.{MatchOption}
 use Rattle.std.specs.Ordering.{is_eq, match_ordering, on}
 use Rattle.std.specs.declared.cmp.Ordering.{Ordering}
 use Rattle.std.specs.declared.cmp.Ordering.TheVariants.{Less, Equal, Greater}
@@ -16,18 +16,21 @@ use Rattle.sg_base.specs.declared.scope.Scope.{Scope}
 use Rattle.sg_base.specs.List.{IsDistinct, IsRising}
 use Rattle.sg_base.specs.Scope.{is_scope, scope_cmp, scope_total}
 use Rattle.sg_base.specs.contracts.scope.ScopePartialEq.TheImpl as derived
-use Rattle.sg_base.proofs.Finite.{Contains-head, Contains-cons, Contains-tail, each_at}
+use Rattle.sg_base.proofs.Finite.{Contains-head, Contains-cons, Contains-tail, Contains-map, Distinct-push}
 use Rattle.sg_base.proofs.Rising.{rising_one}
 use Rattle.sg_base.proofs.Rows.{equal_of}
 use Rattle.sg_base.proofs.Scopes.{equal_scope, scope_itself, scope_same, same_scope}
+use Rattle.sg_state.specs.declared.scope_index.ScopeIndex.{ScopeIndex}
+use Rattle.sg_state.specs.ByScope.{IsIndexed}
 use Rattle.sg_state.specs.Held.{put}
 use Rattle.sg_state.specs.Place.{PlaceOf, IsPlace}
 use Rattle.sg_state.specs.View.{PlacesOf, ChangesPlace, HasKey, in_order}
+use Rattle.sg_state.proofs.ByPlace.{indexed_written}
 use Rattle.sg_state.proofs.Keyed.{found-Contains, Contains-found, none_there, distinct_set, set_from, set_other, set_here}
 use Rattle.sg_state.proofs.OpenLists.{keyed_rise, keyed_hold}
 use Rattle.sg_state.proofs.RisingLists.{keys_rise, rises_by_keys, is_put}
 
--- how scopes are compared by hash
+-- how the code compares scopes
 abbrev pub is_same : Scope → Scope → Bool
 is_same = (derived.ghosts).eq
 
@@ -52,17 +55,6 @@ same_each s x =
 
 pub same_at : (s : Scope) → is_same s ≡ is_at (scope_cmp s)
 same_at s = λ i x. same_each s x i
-
-pub unique_distinct : (ks : List Scope) → IsUnique is_same ks → IsDistinct ks
-unfolding IsUnique
-unique_distinct [] u = tt
-unique_distinct (k ∷ ks) u = (
-  (λ c. (
-      let no : is_same k k ≡ false = each_at (λ y. is_same k y ≡ false) ks u.0 k c in
-      let yes : is_same k k ≡ true = alike_itself k in
-      cc)),
-  unique_distinct ks u.1,
-)
 
 -- a new entry is put in its place
 insert_is_put : {V : Type 0} (es : List (Scope × V)) (s : Scope) (v : V) → ((w : V) → Contains es (s, w) → ⊥) → insert_entry scope_cmp es s v ≡ put (on (λ p. p.0) scope_cmp) es (s, v)
@@ -147,7 +139,7 @@ module _ {V : Type 0} (es : List (Scope × V)) (once : IsDistinct (map (λ p. p.
         ))
         ∙ sym (insert_is_put (in_order es) s v new)
 
--- ---- places by hash
+-- ---- places in any order
 
 module _ {D : Type 0} (es : List (Scope × PlaceOf D)) (once : IsDistinct (map (λ p. p.0) es)) (m : PlacesOf D) (seen : (let v : PlacesOf D = record { entries = in_order es } in v) ≡ m) (s : Scope) where
   pub place_here : (o : Option (PlaceOf D)) → o ≡ lookup (is_same s) es → lookup (is_at (scope_cmp s)) m.entries ≡ o
@@ -156,6 +148,13 @@ module _ {D : Type 0} (es : List (Scope × PlaceOf D)) (once : IsDistinct (map (
 
   pub entries_held : (q : Scope × PlaceOf D) → (Contains es q) ↔ (Contains m.entries q)
   entries_held q = subst (λ (v : PlacesOf D). (Contains es q) ↔ (Contains v.entries q)) seen ((λ c. (order_holds es once q).1 c), (λ c. (order_holds es once q).0 c))
+
+  -- the index has the scopes of what is written too
+  pub kept_by_place : (i : ScopeIndex) (q : PlaceOf D) → IsIndexed i es → IsDistinct (map (λ p. p.0) (set_value (is_scope s) es q)) × IsIndexed i (set_value (is_scope s) es q)
+  kept_by_place i q ok = (
+    subst (λ (ks : List Scope). IsDistinct ks) (sym (keys-set_value (is_scope s) es q)) once,
+    indexed_written i es ok s q,
+  )
 
   module _ (p q : PlaceOf D) (here : Some p ≡ lookup (is_same s) es) (fs : List (Scope × PlaceOf D)) (new : fs ≡ set_value (is_same s) es q) where
     pub place_written : in_order fs ≡ set_value (is_at (scope_cmp s)) m.entries q
@@ -167,13 +166,24 @@ module _ {D : Type 0} (es : List (Scope × PlaceOf D)) (once : IsDistinct (map (
     pub place_changes : (R : PlaceOf D → PlaceOf D → Type 0) → R p q → IsPlace q → ChangesPlace R m.entries (in_order fs) s
     place_changes R r ok = (p, q, place_here (Some p) here, place_written, r, ok)
 
-    pub once_written : IsDistinct (map (λ p. p.0) fs)
-    once_written = subst (λ (l : List (Scope × PlaceOf D)). IsDistinct (map (λ p. p.0) l)) (sym new) (subst (λ (ks : List Scope). IsDistinct ks) (sym (keys-set_value (is_same s) es q)) once)
+  -- a scope that is not there is added behind the others
+  module _ (absent : HasKey m.entries s → ⊥) (v : PlaceOf D) where
+    pub none_here : lookup (is_scope s) es ≡ None
+    none_here =
+        by (lookup (is_scope s) es) refl
+      where
+        by : (o : Option (PlaceOf D)) → o ≡ lookup (is_scope s) es → o ≡ None
+        by None h = refl
+        by (Some w) h = absurd (absent (w, found-Contains scope_cmp scope_total equal_scope m.entries s w (place_here (Some w) h)))
 
-  -- a scope that is not there is added
-  module _ (absent : HasKey m.entries s → ⊥) (v : PlaceOf D) (fs : List (Scope × PlaceOf D)) (apart : IsDistinct (map (λ p. p.0) fs)) where
-    pub place_added : (o : Option (PlaceOf D)) → o ≡ lookup (is_same s) es → MatchOption o (IsPermutation ((s, v) ∷ es) fs) (λ w. fs ≡ set_value (is_same s) es v) → in_order fs ≡ insert_entry scope_cmp m.entries s v
-    place_added None h more =
-        insert_in_order es once fs apart s v (λ w c. absent (w, subst (λ (x : PlacesOf D). Contains x.entries (s, w)) seen c)) more
+    pub once_more : IsDistinct (map (λ p. p.0) (es ++ (s, v) ∷ []))
+    once_more =
+        rw (map-append (λ (p : Scope × PlaceOf D). p.0) es ((s, v) ∷ []))
+        (Distinct-push (map (λ (p : Scope × PlaceOf D). p.0) es) s once (λ c.
+        let k = Contains-map (λ (p : Scope × PlaceOf D). p.0) es s c in
+        absent ((k.0).1, subst (λ (t : Scope). Contains m.entries (t, (k.0).1)) (sym k.2) ((entries_held k.0).0 k.1))))
+
+    pub place_added : in_order (es ++ (s, v) ∷ []) ≡ insert_entry scope_cmp m.entries s v
+    place_added =
+        insert_in_order es once (es ++ (s, v) ∷ []) once_more s v (λ w c. absent (w, subst (λ (x : PlacesOf D). Contains x.entries (s, w)) seen c)) (IsPermutation-append_comm ((s, v) ∷ []) es)
         ∙ ap (λ (x : PlacesOf D). insert_entry scope_cmp x.entries s v) seen
-    place_added (Some w) h more = absurd (absent (w, found-Contains scope_cmp scope_total equal_scope m.entries s w (place_here (Some w) h)))

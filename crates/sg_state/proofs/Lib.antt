@@ -1,7 +1,9 @@
 pub mod ByHash
+pub mod ByPlace
 pub mod Among
 pub mod Equals
 pub mod InParts
+pub mod OwnParts
 pub mod Resting
 pub mod Keyed
 pub mod InOrder
@@ -17,6 +19,7 @@ pub mod Keeping
 pub mod Ending
 pub mod Noting
 pub mod Extending
+pub mod FewParts
 pub mod Finding
 pub mod Making
 pub mod Freshening

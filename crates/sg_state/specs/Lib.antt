@@ -1,3 +1,4 @@
+pub mod ByScope
 pub mod DatumState
 pub mod Held
 pub mod Need
@@ -6,6 +7,8 @@ pub mod Part
 pub mod Place
 pub mod Rest
 pub mod Rows
+pub mod SamePart
+pub mod ScopeParts
 pub mod Slot
 pub mod UnitSet
 pub mod View

@@ -14,6 +14,11 @@ use Rattle.sg_state.specs.View.{EdgeAt, SlotAt}
 pub record PartsOf : Type 0 where
   pub entries : List (Part × List Scope)
 
+-- the scope of the part's row
+abbrev pub scope_of : Part → Scope
+scope_of (Keyed s l k) = s
+scope_of (Rest s l) = s
+
 -- the part has this target
 abbrev pub HasIn : List (Part × List Scope) → Part → Scope → Type 0
 HasIn ps p t = (xs : List Scope) × Contains ps (p, xs) × Contains xs t

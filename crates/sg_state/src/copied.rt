@@ -14,11 +14,10 @@ use crate::row::Row;
 use crate::slot::Slot;
 use sg_base::{Graph, Instance, Label, Scope};
 use std::alloc::{AllocError, Global};
-use std::collections::HashMap;
 
-/// The scopes, in the order of the map.
-fn keys<D>(alloc: Global, places: &HashMap<Scope, Place<D>>) -> Result<Vec<Scope>, AllocError>
-    ensures { IfOk result (λ v. v.items ≡ map (λ p. p.0) places.now.entries) }
+/// The scopes, in the order of the list.
+fn keys<D>(alloc: Global, places: &[(Scope, Place<D>)]) -> Result<Vec<Scope>, AllocError>
+    ensures { IfOk result (λ v. v.items ≡ map (λ p. p.0) places.now) }
 {
     let mut scopes = Vec::new(alloc);
     for (s, _place) in places {
@@ -30,9 +29,9 @@ fn keys<D>(alloc: Global, places: &HashMap<Scope, Place<D>>) -> Result<Vec<Scope
 /// The scopes in rising order, by one sort.
 pub fn rising_scopes<D>(
     alloc: Global,
-    places: &HashMap<Scope, Place<D>>,
+    places: &[(Scope, Place<D>)],
 ) -> Result<Vec<Scope>, AllocError>
-    ensures { IfOk result (λ v. (s : ScopeOf) → (Contains v.items s) ↔ (Contains (map (λ p. p.0) places.now.entries) s)) }
+    ensures { IfOk result (λ v. (s : ScopeOf) → (Contains v.items s) ↔ (Contains (map (λ p. p.0) places.now) s)) }
 {
     let mut scopes = keys(alloc, places)?;
     scopes.sort_unstable();
@@ -79,13 +78,10 @@ fn add_rows<D>(graph: &mut Graph<D>, s: Scope, place: &Place<D>) -> Result<(), A
 }
 
 /// Adds the edges.
-pub fn add_edges<D>(
-    places: &HashMap<Scope, Place<D>>,
-    graph: &mut Graph<D>,
-) -> Result<(), AllocError>
-    requires places { AllByRecursion (λ p. IsPlace p.1) places.now.entries }
-    requires there { (e : Edge) → Contains (flat_map edges_at places.now.entries) e → HasScope graph.old e.from × HasScope graph.old e.to }
-    ensures ok { OnOk result (GainsEdges graph.old graph.new (flat_map edges_at places.now.entries)) }
+pub fn add_edges<D>(places: &[(Scope, Place<D>)], graph: &mut Graph<D>) -> Result<(), AllocError>
+    requires places { AllByRecursion (λ p. IsPlace p.1) places.now }
+    requires there { (e : Edge) → Contains (flat_map edges_at places.now) e → HasScope graph.old e.from × HasScope graph.old e.to }
+    ensures ok { OnOk result (GainsEdges graph.old graph.new (flat_map edges_at places.now)) }
 {
     for (s, place) in places {
         add_rows(graph, *s, place)?;
@@ -118,13 +114,13 @@ fn add_datum<I: Instance>(
 /// Adds copies of the data to a graph that has none.
 pub fn add_data<I: Instance>(
     alloc: Global,
-    places: &HashMap<Scope, Place<I::Datum>>,
+    places: &[(Scope, Place<I::Datum>)],
     graph: &mut Graph<I::Datum>,
 ) -> Result<(), AllocError>
-    requires distinct { IsDistinct (map (λ p. p.0) places.now.entries) }
-    requires there { (s : ScopeOf) → Contains (map (λ p. p.0) places.now.entries) s → HasScope graph.old s }
+    requires distinct { IsDistinct (map (λ p. p.0) places.now) }
+    requires there { (s : ScopeOf) → Contains (map (λ p. p.0) places.now) s → HasScope graph.old s }
     requires none { graph.old.given ≡ [] }
-    ensures ok { OnOk result (GainsData graph.old graph.new (flat_map (λ p. given_of p.0 (p.1).slot) places.now.entries)) }
+    ensures ok { OnOk result (GainsData graph.old graph.new (flat_map (λ p. given_of p.0 (p.1).slot) places.now)) }
 {
     for (s, place) in places {
         add_datum::<I>(alloc, graph, *s, place.slot())?;

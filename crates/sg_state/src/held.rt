@@ -28,8 +28,9 @@ use std::collections::BTreeMap;
 use std::marker::Model;
 
 /// A graph to which units still add: its scopes, edges and data, the holders of its rows and of its unset data, and how
-/// many scopes each unit has made. A row is closed where it has no holder. After want of memory nothing has changed. Scopes are
-/// found by hash, so that a look-up takes constant time on average.
+/// many scopes each unit has made. A row is closed where it has no holder. After want of memory nothing has changed. A look-up
+/// takes constant time, on average where it is by hash: the scopes of an opening with serials below their number are found by a
+/// table, and others by hash. The parts of a scope's rows are found by a look at each, and by hash behind the first sixteen.
 #[derive(Drop)]
 pub struct Held<I: Instance> {
     alloc: Global,

@@ -5,6 +5,7 @@
 //! States", ECOOP 2021). No query and no order of units is known here.
 #![tactic(auto)]
 
+mod by_scope;
 mod copied;
 mod datum_state;
 mod freed;
@@ -20,7 +21,9 @@ mod place;
 mod places;
 mod row;
 mod rows;
+mod scope_index;
 mod scope_list;
+mod scope_parts;
 mod slot;
 mod sound;
 mod unit_set;

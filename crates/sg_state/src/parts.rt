@@ -10,30 +10,32 @@ ghost use Rattle.sg_state.specs.Opening.{edge_of};
 ghost use Rattle.sg_state.specs.Part.{HasIn, KeepsParts, AddsIn, LosesIn, IsPartOf, ArePartsOf};
 ghost use Rattle.sg_state.specs.View.{ArePlaces};
 
+use crate::by_scope::ByScope;
 use crate::part::Part;
 use crate::places::Places;
+use crate::scope_parts::ScopeParts;
 use crate::slot::Slot;
-use sg_base::{Instance, Label, Scope, ScopeSet};
+use sg_base::{Instance, Label, Scope};
 use std::alloc::{AllocError, Global};
-use std::collections::HashMap;
 use std::marker::Model;
 
-/// The parts of rows with their targets, found by hash.
+/// The parts of rows with their targets, by the scopes of the rows.
 #[derive(Drop)]
 pub struct Parts {
-    found: HashMap<Part, ScopeSet>,
+    found: ByScope<ScopeParts>,
 }
 
 impl Model for Parts {
-    ghost use Rattle.std.specs.Prelude.{map};
-    ghost use Rattle.sg_base.specs.List.{IsDistinct};
+    ghost use Rattle.std.specs.List.{flat_map};
+    ghost use Rattle.sg_state.specs.ByScope.{IsIndexed};
     ghost use Rattle.sg_state.specs.Part.{PartsOf};
+    ghost use Rattle.sg_state.specs.ScopeParts.{AreOwn, parts_at};
 
     ghost Value = { PartsOf };
 
-    ghost view = { λ p. record { entries = p.found.entries } };
+    ghost view = { λ p. record { entries = flat_map parts_at p.found.all.items } };
 
-    ghost invariant = { λ p. IsDistinct (map (λ e. e.0) p.found.entries) };
+    ghost invariant = { λ p. AreOwn p.found.all.items × IsIndexed p.found.index p.found.all.items };
 }
 
 impl Parts {
@@ -42,44 +44,56 @@ impl Parts {
         ensures { result.entries ≡ [] }
     {
         Parts {
-            found: HashMap::new(alloc),
+            found: ByScope::new(alloc),
         }
     }
 
-    /// Adds a target to a part, by a look-up, a binary search in the part and moving its targets above the new one.
+    /// No part, with a table of the places of nobody's scopes with serials below this one.
+    pub fn with_table(alloc: Global, serials: usize) -> Result<Parts, AllocError>
+        ensures { IfOk result (λ p. p.entries ≡ []) }
+    {
+        let found = ByScope::with_table(alloc, serials)?;
+        Ok(Parts { found })
+    }
+
+    /// Adds a target to a part, by look-ups, a binary search in the part and moving its targets above the new one.
     pub fn put(&mut self, alloc: Global, part: Part, to: Scope) -> Result<(), AllocError>
         ensures ok { OnOk result (AddsIn self.old.entries self.new.entries part to) }
         ensures err { OnErr result (KeepsParts self.old.entries self.new.entries) }
     {
-        match self.found.get_mut(&part) {
-            Some(targets) => targets.insert(to)?,
+        let s = part.scope();
+        match self.found.find(s) {
+            Some(at) => {
+                self.found.all[at].1.put(alloc, part, to)?;
+                Ok(())
+            }
             None => {
-                let mut targets = ScopeSet::new(alloc);
-                targets.insert(to)?;
-                self.found.insert(part, targets)?;
+                let mut parts = ScopeParts::new(alloc);
+                parts.put(alloc, part, to)?;
+                self.found.insert(s, parts)?;
+                Ok(())
             }
         }
-        Ok(())
     }
 
-    /// Takes a target out of a part, if it is there, by a look-up, a binary search in the part and moving its targets
-    /// above that one.
+    /// Takes a target out of a part, if it is there, by look-ups, a binary search in the part and moving its targets above
+    /// that one.
     pub fn take(&mut self, part: Part, to: Scope)
         ensures { LosesIn self.old.entries self.new.entries part to }
     {
-        match self.found.get_mut(&part) {
-            Some(targets) => targets.remove(to),
+        match self.found.find(part.scope()) {
+            Some(at) => self.found.all[at].1.take(part, to),
             None => {}
         }
     }
 
-    /// The targets of a part in rising order, by a look-up.
+    /// The targets of a part in rising order, by look-ups.
     pub fn targets(&self, part: Part) -> &[Scope]
         ensures exact { (t : ScopeOf) → (Contains result.now t) ↔ (HasIn self.now.entries part t) }
         ensures rising { IsRising scope_cmp result.now }
     {
-        match self.found.get(&part) {
-            Some(targets) => targets.as_slice(),
+        match self.found.find(part.scope()) {
+            Some(at) => self.found.all[at].1.targets(part),
             None => &[],
         }
     }
@@ -107,7 +121,7 @@ pub fn parts_of<I: Instance>(
     requires places { ArePlaces places.now.entries }
     ensures { IfOk result (λ ps. ArePartsOf I.datum_key places.now.entries (map edge_of list.now) ps.entries) }
 {
-    let mut parts = Parts::new(alloc);
+    let mut parts = Parts::with_table(alloc, places.all().len())?;
     for (from, l, to) in list {
         let part = part_of::<I>(places, *from, l.number(), *to);
         parts.put(alloc, part, *to)?;

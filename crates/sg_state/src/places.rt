@@ -11,30 +11,31 @@ ghost use Rattle.sg_base.specs.Scope.{scope_cmp};
 ghost use Rattle.sg_state.specs.Place.{PlaceOf, AddsTarget, AddsHolder, LosesHolder};
 ghost use Rattle.sg_state.specs.View.{ArePlaces, ChangesPlace, EdgeAt, HasKey, RowAt, RowIs, SlotAt, LeavesPlace, LeavesAll};
 
+use crate::by_scope::ByScope;
 use crate::place::Place;
 use crate::row::Row;
 use crate::slot::Slot;
 use sg_base::Scope;
 use std::alloc::{AllocError, Global};
-use std::collections::HashMap;
 use std::marker::Model;
 
-/// The scopes with what they have, found by hash, which contracts see in the rising order of the scopes.
+/// The scopes with what they have, which contracts see in the rising order of the scopes.
 #[derive(Drop)]
 pub struct Places<D> {
-    found: HashMap<Scope, Place<D>>,
+    found: ByScope<Place<D>>,
 }
 
 impl<D> Model for Places<D> {
     ghost use Rattle.std.specs.Prelude.{map};
     ghost use Rattle.sg_base.specs.List.{IsDistinct};
+    ghost use Rattle.sg_state.specs.ByScope.{IsIndexed};
     ghost use Rattle.sg_state.specs.View.{PlacesOf, in_order};
 
     ghost Value = { PlacesOf D };
 
-    ghost view = { λ p. record { entries = in_order p.found.entries } };
+    ghost view = { λ p. record { entries = in_order p.found.all.items } };
 
-    ghost invariant = { λ p. IsDistinct (map (λ e. e.0) p.found.entries) };
+    ghost invariant = { λ p. IsDistinct (map (λ e. e.0) p.found.all.items) × IsIndexed p.found.index p.found.all.items };
 }
 
 impl<D> Places<D> {
@@ -43,7 +44,7 @@ impl<D> Places<D> {
         ensures { result.entries ≡ [] }
     {
         Places {
-            found: HashMap::new(alloc),
+            found: ByScope::new(alloc),
         }
     }
 
@@ -51,7 +52,7 @@ impl<D> Places<D> {
     pub fn with_room(alloc: Global, scopes: usize) -> Result<Places<D>, AllocError>
         ensures { IfOk result (λ m. m.entries ≡ []) }
     {
-        let found = HashMap::with_capacity(alloc, scopes)?;
+        let found = ByScope::with_room(alloc, scopes)?;
         Ok(Places { found })
     }
 
@@ -68,12 +69,12 @@ impl<D> Places<D> {
         Ok(())
     }
 
-    /// The scopes with what they have, in any order.
-    pub fn all(&self) -> &HashMap<Scope, Place<D>>
-        ensures exact { (p : ScopeOf × PlaceOf D) → (Contains result.now.entries p) ↔ (Contains self.now.entries p) }
-        ensures once { IsDistinct (map (λ p. p.0) result.now.entries) }
+    /// The scopes with what they have, in the order in which they came.
+    pub fn all(&self) -> &[(Scope, Place<D>)]
+        ensures exact { (p : ScopeOf × PlaceOf D) → (Contains result.now p) ↔ (Contains self.now.entries p) }
+        ensures once { IsDistinct (map (λ p. p.0) result.now) }
     {
-        &self.found
+        self.found.all.as_slice()
     }
 
     /// Adds a target to a row, by a look-up.
@@ -83,9 +84,9 @@ impl<D> Places<D> {
         ensures ok { OnOk result (ChangesPlace (λ p q. AddsTarget p q label to) self.old.entries self.new.entries s) }
         ensures err { OnErr result (self.new.entries ≡ self.old.entries) }
     {
-        match self.found.get_mut(&s) {
-            Some(place) => {
-                place.add_target(label, to)?;
+        match self.found.find(s) {
+            Some(at) => {
+                self.found.all[at].1.add_target(label, to)?;
                 Ok(())
             }
             None => Ok(()),
@@ -105,9 +106,9 @@ impl<D> Places<D> {
         requires places { ArePlaces self.old.entries }
         ensures ok { OnOk result (ChangesPlace (λ p q. AddsTarget p q label to) self.old.entries self.new.entries s) }
     {
-        match self.found.get_mut(&s) {
-            Some(place) => {
-                place.give_target(alloc, label, to)?;
+        match self.found.find(s) {
+            Some(at) => {
+                self.found.all[at].1.give_target(alloc, label, to)?;
                 Ok(())
             }
             None => Ok(()),
@@ -127,9 +128,9 @@ impl<D> Places<D> {
         requires places { ArePlaces self.old.entries }
         ensures ok { OnOk result (ChangesPlace (λ p q. AddsHolder p q label unit) self.old.entries self.new.entries s) }
     {
-        match self.found.get_mut(&s) {
-            Some(place) => {
-                place.give_row(alloc, label, unit)?;
+        match self.found.find(s) {
+            Some(at) => {
+                self.found.all[at].1.give_row(alloc, label, unit)?;
                 Ok(())
             }
             None => Ok(()),
@@ -142,8 +143,8 @@ impl<D> Places<D> {
         requires places { ArePlaces self.old.entries }
         ensures { ChangesPlace (λ p q. LosesHolder p q label unit) self.old.entries self.new.entries s }
     {
-        match self.found.get_mut(&s) {
-            Some(place) => place.remove_holder(label, unit),
+        match self.found.find(s) {
+            Some(at) => self.found.all[at].1.remove_holder(label, unit),
             None => {}
         }
     }
@@ -156,8 +157,8 @@ impl<D> Places<D> {
         requires places { ArePlaces self.old.entries }
         ensures { ChangesPlace (λ p q. q ≡ record { rows = p.rows; slot = slot }) self.old.entries self.new.entries s }
     {
-        match self.found.get_mut(&s) {
-            Some(place) => place.set_slot(slot),
+        match self.found.find(s) {
+            Some(at) => self.found.all[at].1.set_slot(slot),
             None => {}
         }
     }
@@ -169,8 +170,8 @@ impl<D> Places<D> {
         requires places { ArePlaces self.old.entries }
         ensures { LeavesPlace self.old.entries self.new.entries s unit }
     {
-        match self.found.get_mut(&s) {
-            Some(place) => place.leave(unit),
+        match self.found.find(s) {
+            Some(at) => self.found.all[at].1.leave(unit),
             None => {}
         }
     }
@@ -179,7 +180,10 @@ impl<D> Places<D> {
     pub fn place(&self, s: Scope) -> Option<&Place<D>>
         ensures { lookup (is_at (scope_cmp s)) self.now.entries ≡ option_copied result }
     {
-        self.found.get(&s)
+        match self.found.find(s) {
+            Some(at) => Some(&self.found.all[at].1),
+            None => None,
+        }
     }
 
     /// The row of a scope and a label, if it was made, by look-ups.
@@ -187,7 +191,7 @@ impl<D> Places<D> {
         ensures found { IfSome result (λ r. RowIs self.now.entries s label r.now) }
         ensures none { IfNone result (ArePlaces self.now.entries → RowAt self.now.entries s label → ⊥) }
     {
-        match self.found.get(&s) {
+        match self.place(s) {
             Some(place) => place.row(label),
             None => None,
         }
@@ -209,7 +213,7 @@ impl<D> Places<D> {
         ensures found { IfSome result (λ x. SlotAt self.now.entries s x.now) }
         ensures none { IfNone result (HasKey self.now.entries s → ⊥) }
     {
-        match self.found.get(&s) {
+        match self.place(s) {
             Some(place) => Some(place.slot()),
             None => None,
         }

@@ -185,6 +185,33 @@ fn change_scope(o: &mut Opening<u64>, kind: &str, s: Scope, about: &str) -> Resu
     }
 }
 
+/// Adds nobody's scopes with the serials from 0 to a last one to an opening. Each but the first has its serial as its datum,
+/// and the first has edges to them, the last one first.
+fn list_fan(o: &mut Opening<u64>, last: u32) -> Result<(), Fail> {
+    let first = Scope {
+        unit: u32::MAX,
+        serial: 0,
+    };
+    list_scope(o, first)?;
+    for serial in 0..last {
+        let s = Scope {
+            unit: u32::MAX,
+            serial: serial + 1,
+        };
+        list_scope(o, s)?;
+        list_given(o, s, serial + 1)?;
+        list_edge(
+            o,
+            first,
+            Scope {
+                unit: u32::MAX,
+                serial: last - serial,
+            },
+        )?;
+    }
+    Ok(())
+}
+
 /// Adds what a line lists to an opening. An empty line lists nothing.
 pub(crate) fn change(o: &mut Opening<u64>, line: &str) -> Result<(), Fail> {
     let (kind, about) = halves(line, ' ');
@@ -195,6 +222,7 @@ pub(crate) fn change(o: &mut Opening<u64>, line: &str) -> Result<(), Fail> {
             o.units = number(first)?;
             Ok(())
         }
+        "fan" => list_fan(o, number(first)?),
         "row" => list_row(o, number(first)?, scope(second)?),
         "datum" => list_datum(o, number(first)?, scope(second)?),
         _ => change_scope(o, kind, scope(first)?, second),

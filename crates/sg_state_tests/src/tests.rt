@@ -125,6 +125,150 @@ false datum 0 n.0
 false units 4294967295
 ";
 
+/// Scopes of nobody out of order and with gaps, beside those that lie at their serials.
+const GAPS: &str = "\
+units 2
+scope n.4
+scope n.0
+scope n.1
+scope n.7
+scope n.2
+scope n.3
+edge n.0 n.7
+edge n.0 n.4
+edge n.7 n.0
+edge n.2 n.3
+given n.3 30
+given n.4 40
+row 0 n.7
+row 1 n.2
+datum 1 n.7
+";
+
+/// What the graph with gaps says.
+const FOUND: &str = "\
+there n.0 = true
+there n.4 = true
+there n.5 = false
+there n.6 = false
+there n.7 = true
+there n.8 = false
+there 0.0 = false
+row n.0 = n.4 n.7
+row n.7 = n.0
+row n.2 = n.3
+row n.5 =
+keyed n.0 40 = n.4
+rest n.0 = n.7
+keyed n.2 30 = n.3
+rest n.7 = n.0
+holders n.7 = 0
+holders n.2 = 1
+holders n.4 =
+datum n.3 = 30
+datum n.4 = 40
+datum n.7 = unset
+holder n.7 = 1
+edge n.7 n.4
+edge n.2 n.7
+keyed n.7 40 = n.4
+rest n.2 = n.7
+set n.7 70
+datum n.7 = 70
+close n.7
+whole n.7 = n.0 n.4
+whole n.2 = open
+end 1
+whole n.2 = n.3 n.7
+copied = n.0 n.1 n.2 n.3 n.4 n.7
+copied_row n.7 = n.0 n.4
+copied_datum n.7 = 70
+copied_datum n.3 = 30
+";
+
+/// Scopes of units with the serials of nobody's.
+const BESIDE: &str = "\
+there 0.0 = false
+there 1.0 = false
+fresh 0.0
+fresh 1.0
+fresh 0.1
+there 0.0 = true
+there 0.1 = true
+there 1.1 = false
+row n.0 = n.1
+row 0.0 =
+edge n.0 0.0
+edge 0.0 n.1
+edge 0.0 1.0
+set 0.0 5
+row n.0 = 0.0 n.1
+rest n.0 = 0.0 n.1
+row 0.0 = 1.0 n.1
+rest 0.0 = 1.0 n.1
+edge 0.1 0.0
+keyed 0.1 5 = 0.0
+holders n.0 = 0 1
+holders 0.0 = 0
+holders 1.0 = 1
+datum n.0 = 7
+datum 0.0 = 5
+datum 1.0 = unset
+end 0
+holders n.0 = 1
+whole 0.0 = 1.0 n.1
+whole 1.0 = open
+copied = 0.0 0.1 1.0 n.0 n.1
+";
+
+/// A row with forty keys, of which some get a second target, and one target has none.
+const FAN: &str = "\
+keyed n.0 1 = n.1
+keyed n.0 15 = n.15
+keyed n.0 16 = n.16
+keyed n.0 17 = n.17
+keyed n.0 40 = n.40
+keyed n.0 41 =
+keyed n.1 1 =
+rest n.0 =
+fresh 0.0
+fresh 0.1
+fresh 0.2
+set 0.0 17
+set 0.1 3
+edge n.0 0.0
+edge n.0 0.1
+edge n.0 0.2
+edge n.0 0.2
+keyed n.0 17 = 0.0 n.17
+keyed n.0 3 = 0.1 n.3
+keyed n.0 16 = n.16
+rest n.0 = 0.2
+set 0.2 40
+keyed n.0 40 = n.40
+rest n.0 = 0.2
+";
+
+#[test]
+fn scopes_with_gaps_are_found(rt: HostRuntime) -> Result<(), Fail> {
+    let mut held = opened(rt.alloc(), opening(rt.alloc(), GAPS)?)?;
+    follow(rt.alloc(), &mut held, FOUND)
+}
+
+#[test]
+fn scopes_of_units_stand_beside_those_of_nobody(rt: HostRuntime) -> Result<(), Fail> {
+    let mut held = opened(rt.alloc(), opening(rt.alloc(), PAIR)?)?;
+    follow(rt.alloc(), &mut held, BESIDE)
+}
+
+#[test]
+fn a_row_has_many_keys(rt: HostRuntime) -> Result<(), Fail> {
+    let mut o = opening(rt.alloc(), "units 1\nfan 40")?;
+    change(&mut o, "row 0 n.0")?;
+    let mut held = opened(rt.alloc(), o)?;
+    follow(rt.alloc(), &mut held, FAN)
+}
+
 #[test]
 fn a_unit_holds_what_it_makes(rt: HostRuntime) -> Result<(), Fail> {
     let mut held = Held::<Numbers>::new(rt.alloc(), 2)?;

@@ -21,7 +21,7 @@ use Rattle.sg_turn.specs.View.{joined_view, former_maker, new_maker, gathering_v
 use Rattle.sg_turn.specs.Rule.{SeatKnows, Knows, IsPlaced, IsRuled, IsInTurn, TicketsFit}
 use Rattle.sg_turn.specs.Steps.{Looks, Draws, Ends, Serves, Marks, Gives, StepsKeepRule}
 use Rattle.sg_turn.proofs.Lists.{at_below, same_at, at_one, each_set, at_end, at_both}
-use Rattle.sg_turn.proofs.EntryLists.{begins_more, told_same, told_other, not_longer, last_same}
+use Rattle.sg_turn.proofs.EntryLists.{begins_more, told_same, told_other, none_or_some, not_longer, same_behind}
 use Rattle.sg_turn.proofs.Views.{draws_one, no_ticket, free_live, total_set, total_snoc, total_le, not_inside, not_joined, alone}
 use Rattle.sg_turn.proofs.Slots.{same_slot}
 
@@ -403,17 +403,18 @@ module _ {S E R : Type 0} (entries : S → List E) (root : S → R) (teller : E 
             (λ z a b. inr (omega arith, b, (λ h. let e : t ≡ z = subst (λ (q : Stage). Has q z) is h in omega arith)));
         marked = r.marked;
       } in
+      let more = gives_what.0 in let all = gives_what.2 in
       ⊎_elim
-      (λ (same : entries x ≡ v.seen). let w : W = record v { stage = Spent } in let is_log : entries x ≡ r.log = same ∙ seen in let size = ap length is_log in
+      (λ (none : more ≡ []). let w : W = record v { stage = Spent } in let same : entries x ≡ v.seen = gives_what.1 ∙ (ap (λ l. v.seen ++ l) none ∙ append-nil v.seen) in let is_log : entries x ≡ r.log = same ∙ seen in let size = ap length is_log in
       done w (move w refl refl (λ sn b. subst (Begins sn) (sym is_log) b) (λ n not. ap (told_by teller n) is_log) (omega arith)
       refl refl refl (subst (Begins v.seen) (sym is_log) seat.begins) (ap (told_by teller v.number) is_log ∙ seat.own) tt)
-      ((λ _. refl), λ e longer. absurd (not_longer v.seen e (sym same ∙ longer))))
-      (λ (more : (e : E) × (entries x ≡ v.seen ++ e ∷ []) × (teller e ≡ v.number)). let w : W = record v { stage = Outside; seen = entries x; mine = v.mine ++ more.0 ∷ [] } in let e = more.0 in
-      let is_log : entries x ≡ r.log ++ e ∷ [] = more.1 ∙ ap (λ l. l ++ e ∷ []) seen in let size : length (entries x) ≡ length r.log + 1 = ap length is_log ∙ length-append r.log (e ∷ []) in
-      done w (move w refl refl (λ sn b. subst (Begins sn) (sym is_log) (begins_more sn r.log (e ∷ []) b)) (λ n not. ap (told_by teller n) is_log ∙ told_other teller n r.log e (λ z. not (sym z ∙ more.2))) (omega arith)
-      refl refl refl ([], sym (append-nil (entries x))) (ap (told_by teller v.number) is_log ∙ (told_same teller v.number r.log e more.2 ∙ ap (λ l. l ++ e ∷ []) seat.own)) tt)
-      ((λ same. absurd (not_longer v.seen e (sym same ∙ more.1))), λ e' longer. ap (λ (z : E). record v { stage = Outside; seen = entries x; mine = v.mine ++ z ∷ [] }) (last_same v.seen e e' (sym more.1 ∙ longer))))
-      gives_what)
+      ((λ _. refl), λ es some longer. absurd (not_longer v.seen es (sym same ∙ longer) some)))
+      (λ (some : 0 < length more). let w : W = record v { stage = Outside; seen = entries x; mine = v.mine ++ more } in
+      let is_log : entries x ≡ r.log ++ more = gives_what.1 ∙ ap (λ l. l ++ more) seen in let size : length (entries x) ≡ length r.log + length more = ap length is_log ∙ length-append r.log more in
+      done w (move w refl refl (λ sn b. subst (Begins sn) (sym is_log) (begins_more sn r.log more b)) (λ n not. ap (told_by teller n) is_log ∙ told_other teller v.number n r.log more all not) (omega arith)
+      refl refl refl ([], sym (append-nil (entries x))) (ap (told_by teller v.number) is_log ∙ (told_same teller v.number r.log more all ∙ ap (λ l. l ++ more) seat.own)) tt)
+      ((λ same. absurd (not_longer v.seen more (sym same ∙ gives_what.1) some)), λ es _ longer. ap (λ (z : List E). record v { stage = Outside; seen = entries x; mine = v.mine ++ z }) (same_behind v.seen more es (sym gives_what.1 ∙ longer))))
+      (none_or_some more))
 
   pub serves_after : (slots id : ℕ) (me me' : Me (Option S) (View E R)) (t : ℕ) (x : S) → me.0.stage ≡ Inside t → me.1 ≡ (0, None) ∷ [] → me' ≡ (me.0, (0, Some x) ∷ rest me.1) → length (entries x) < 2 ^ 63 → me.0.root ≡ Some (root x) → Gives entries teller me.0 x
       → Allows Rule slots id me' 1 (λ n. (n + 1) % 2 ^ 64) (Serves entries nothing me')

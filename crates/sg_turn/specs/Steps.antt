@@ -7,11 +7,12 @@
 --                            seen the value's entries
 --   5  value out of the slot no word, no view: a plain read and write of a slot that the seat has          `exchange` of the table
 --   6  value into the slot   no word, no view                                                             `exchange` of the table
---   7  advance `serving`     by one: the slot is given back, the new entry joins the seat's own, seen is   `Serves`
---                            the value's entries, no ticket; without an entry the seat is spent
+--   7  advance `serving`     by one: the slot is given back, the new entries, which all name the seat,     `Serves`
+--                            join its own, seen is the value's entries, no ticket; without a new entry
+--                            the seat is spent
 --   8  mark `asleep`         one store of 0 or 1: no view                                                  `Marks`
 --   9  park or wake          no word, no view, no seat                                                     `park`, `wake_one` of the table
-use Rattle.std.specs.Prelude.{◌≡◌, ◌≢◌, ℕ, ◌+◌, ◌%◌, ◌<◌, ◌≤◌, ◌^◌, ◌==◌, ◌⊎◌, List, [], ◌∷◌, ◌++◌, length, Option, Some}
+use Rattle.std.specs.Prelude.{◌≡◌, ◌≢◌, ℕ, ◌+◌, ◌%◌, ◌<◌, ◌≤◌, ◌^◌, ◌==◌, List, [], ◌∷◌, ◌++◌, length, Option, Some, All}
 use prog.Atomic.{either}
 use Rattle.atomic_table.specs.Table.{Me, Step, Allows, Splits, Joins}
 use Rattle.sg_turn.specs.declared.stage.Stage.TheVariants.{Outside, Drawn, Inside, Spent}
@@ -47,17 +48,17 @@ module _ {S E R : Type 0} (entries : S → List E) (root : S → R) (teller : E 
   Looks st m serving m' = (t : ℕ) → m.0.stage ≡ Drawn t → (serving ≡ t → Takes m m' t) × (serving ≢ t → m' ≡ m)
 
 module _ {E R : Type 0} where
-  -- a turn of the seat v ended with these entries: without a new one it is spent, and else the new one is its own
+  -- a turn of the seat v ended with these entries: without a new one it is spent, and else the new ones are its own
   abbrev pub Ends : View E R → List E → View E R → Type 0
-  Ends v es w = (es ≡ v.seen → w ≡ record v { stage = Spent }) × ((e : E) → es ≡ v.seen ++ e ∷ [] → w ≡ record v { stage = Outside; seen = es; mine = v.mine ++ e ∷ [] })
+  Ends v es w = (es ≡ v.seen → w ≡ record v { stage = Spent }) × ((more : List E) → 0 < length more → es ≡ v.seen ++ more → w ≡ record v { stage = Outside; seen = es; mine = v.mine ++ more })
 
   -- 7: the slot is given back with the value x in it
   abbrev pub Serves : {S : Type 0} → (S → List E) → Step (Option S) → Me (Option S) (View E R) → ℕ → Me (Option S) (View E R) → Type 0
   Serves {S = S} entries st m serving m' = (x : S) → m.1 ≡ (0, Some x) ∷ [] → (m'.1 ≡ []) × Ends m.0 (entries x) m'.0
 
-  -- what a seat may give back: the entries that it found, or one more, which names it
+  -- what a seat may give back: the entries that it found, and new ones behind them, which all name it
   abbrev pub Gives : {S : Type 0} → (S → List E) → (E → ℕ) → View E R → S → Type 0
-  Gives entries teller v x = (entries x ≡ v.seen) ⊎ ((e : E) × (entries x ≡ v.seen ++ e ∷ []) × (teller e ≡ v.number))
+  Gives entries teller v x = (more : List E) × (entries x ≡ v.seen ++ more) × All (λ e. teller e ≡ v.number) more
 
 module _ {S E R : Type 0} (entries : S → List E) (root : S → R) (teller : E → ℕ) where
   -- Whatever the other threads do between two steps of a seat, each of its steps keeps the rule.

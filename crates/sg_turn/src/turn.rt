@@ -1,5 +1,5 @@
 //! The lock.
-ghost use Rattle.std.specs.Prelude.{◌≡◌, ◌⊎◌, ◌≤◌, ◌+◌, ◌<◌, ◌++◌, ℕ, length, true, false, [], ◌∷◌, IfOk, All};
+ghost use Rattle.std.specs.Prelude.{◌≡◌, ◌⊎◌, ◌≤◌, ◌+◌, ◌<◌, ◌++◌, ℕ, List, length, true, false, [], ◌∷◌, IfOk, All};
 ghost use Rattle.sg_turn.specs.Entries.{Begins, told_by};
 ghost use Rattle.sg_turn.specs.Turn.{IsOf, fresh_seats};
 
@@ -102,6 +102,22 @@ impl<V: Storied> Turn<V> {
             → seat.new ≡ record seat.old { inside = false; spent = true } }
         ensures added { (e : V.Entry) → V.entries value ≡ seat.old.seen ++ e ∷ []
             → seat.new ≡ record seat.old { seen = V.entries value; mine = seat.old.mine ++ e ∷ []; inside = false } }
+    {
+        give::<V>(&self.table.shared, &mut seat.seat, value);
+    }
+
+    /// Gives the value back with the entries as they were and new ones behind them, at least one, which all name the seat.
+    /// A turn that may add none gives it back by `unlock`.
+    ///
+    /// It takes no memory, and a few atomic steps, however many entries are new.
+    pub fn unlock_all(&self, seat: &mut TurnSeat<V>, value: V)
+        requires own { IsOf self.now seat.old }
+        requires inside { seat.old.inside ≡ true }
+        requires root { V.root value ≡ self.now.root }
+        requires entries { (more : List V.Entry) × (0 < length more) × (V.entries value ≡ seat.old.seen ++ more)
+            × All (λ e. V.teller e ≡ seat.old.number) more }
+        ensures { (more : List V.Entry) → V.entries value ≡ seat.old.seen ++ more
+            → seat.new ≡ record seat.old { seen = V.entries value; mine = seat.old.mine ++ more; inside = false } }
     {
         give::<V>(&self.table.shared, &mut seat.seat, value);
     }

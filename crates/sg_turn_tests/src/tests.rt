@@ -1,38 +1,14 @@
-ghost use Rattle.std.specs.Prelude.{◌≡◌, ◌+◌, ◌<◌, ◌++◌, [], ◌∷◌, ℕ, IfOk, OnOk, OnErr, All, length, false, true};
+ghost use Rattle.std.specs.Prelude.{◌≡◌, ◌+◌, ◌<◌, ◌++◌, [], ◌∷◌, IfOk, OnOk, OnErr, All, length, false, true};
 ghost use Rattle.sg_turn.specs.Turn.{IsOf, fresh_seats};
 
-use sg_turn::{Storied, Turn, TurnSeat};
+use crate::tally::{Note, Tally, tell_list};
+use sg_turn::{Turn, TurnSeat};
 use std::alloc::{AllocError, Global};
 use std::sync::Wait;
 use std::test::Fail;
 use std::thread;
 use std::thread::Threads;
 use std::time::{Clock, Duration};
-
-/// The number of a seat, and how many notes it had before.
-type Note = (u32, u32);
-
-#[derive(Drop)]
-struct Tally {
-    notes: Vec<Note>,
-    name: u8,
-}
-
-impl Storied for Tally {
-    type Entry = Note;
-
-    type Root = u8;
-
-    ghost use Rattle.std.proofs.Common.{arith};
-
-    ghost entries = { λ t. t.notes.items };
-
-    ghost root = { λ t. t.name };
-
-    ghost teller = { λ e. e.0 };
-
-    ghost few = { λ t. Prim.omega arith };
-}
 
 #[derive(Drop)]
 struct Job {
@@ -250,5 +226,114 @@ fn two_threads_take_turns(rt: HostRuntime) -> Result<(), Fail> {
 fn eight_threads_take_turns(rt: HostRuntime) -> Result<(), Fail> {
     let all = many(&rt, rt.alloc(), 8, 500)?;
     assert!(rt; are_counted(&all, 8, 500));
+    Ok(())
+}
+
+/// How many notes stand in the five lists of a round.
+const NOTES_OF_ROUND: u32 = 15;
+
+/// Whether a list of a round begins with the note of this number within the round: they have one to five notes.
+fn begins_list(number: u32) -> bool {
+    matches!(number, 0 | 1 | 3 | 6 | 10)
+}
+
+/// So many notes of a seat, counted from `first`.
+fn list_of(alloc: Global, number: u32, first: u32, count: u32) -> Result<Vec<Note>, AllocError>
+    ensures { IfOk result (λ v. (length v.items ≡ count) × All (λ e. e.0 ≡ number) v.items) }
+{
+    let mut notes = Vec::new(alloc);
+    for index in 0..count {
+        notes.push((number, first.wrapping_add(index)))?;
+    }
+    Ok(notes)
+}
+
+/// Adds lists of one to five notes in turn, so many rounds of them.
+fn tell_lists<R: Wait>(
+    rt: &R,
+    alloc: Global,
+    turn: &Turn<Tally>,
+    job: Job,
+    rounds: u32,
+) -> Result<TurnSeat<Tally>, AllocError>
+    requires own { IsOf turn.now job.seat × (job.seat.number ≡ job.number) }
+    requires outside { (job.seat.inside ≡ false) × (job.seat.spent ≡ false) × (job.seat.kept ≡ []) }
+    ensures { IfOk result (λ s. IsOf turn.now s × (s.inside ≡ false) × (s.kept ≡ []) × (s.number ≡ job.seat.number)) }
+{
+    let Job { mut seat, number } = job;
+    let mut first: u32 = 0;
+    for _round in 0..rounds {
+        for more in 0..5 {
+            let count = more + 1;
+            let notes = list_of(alloc, number, first, count)?;
+            tell_list(rt, turn, &mut seat, notes.as_slice())?;
+            first = first.wrapping_add(count);
+        }
+    }
+    Ok(seat)
+}
+
+/// Two threads add lists of notes, and the lock is closed with both seats.
+fn two_with_lists<R: Threads + Wait + Sync>(
+    rt: &R,
+    alloc: Global,
+    rounds: u32,
+) -> Result<Vec<Note>, AllocError> {
+    let made = Turn::new(alloc, empty(alloc), 2)?;
+    let (turn, mut seats) = made;
+    let one = seats.pop().unwrap();
+    let zero = seats.pop().unwrap();
+    let (zero, one) = thread::join(
+        rt,
+        || {
+            tell_lists(
+                rt,
+                alloc,
+                &turn,
+                Job {
+                    seat: zero,
+                    number: 0,
+                },
+                rounds,
+            )
+        },
+        || {
+            tell_lists(
+                rt,
+                alloc,
+                &turn,
+                Job {
+                    seat: one,
+                    number: 1,
+                },
+                rounds,
+            )
+        },
+    );
+    let zero = zero?;
+    let one = one?;
+    seats.push(zero)?;
+    seats.push(one)?;
+    Ok(turn.close(seats).notes)
+}
+
+/// Whether the notes of each list stand behind one another.
+fn are_listed(all: &[Note]) -> bool {
+    let mut last: Note = (0, 0);
+    for note in all {
+        let follows = note.0 == last.0 && note.1 == last.1.wrapping_add(1);
+        if !begins_list(note.1 % NOTES_OF_ROUND) && !follows {
+            return false;
+        }
+        last = *note;
+    }
+    true
+}
+
+#[test]
+fn two_threads_add_lists_in_turns(rt: HostRuntime) -> Result<(), Fail> {
+    let all = two_with_lists(&rt, rt.alloc(), 400)?;
+    assert!(rt; are_counted(&all, 2, 400 * NOTES_OF_ROUND));
+    assert!(rt; are_listed(&all));
     Ok(())
 }

@@ -60,6 +60,12 @@ pub trait Unit: Drop {
     fn id(&self) -> u32
         ensures { result ≡ number self.now };
 
+    /// Whether the last call gave the last write of a group, so that other units may go on first. It changes nothing of what
+    /// the unit gives. Takes no memory and constant time.
+    fn has_written(&self) -> bool {
+        false
+    }
+
     /// The next operation, where `last` is the reply to the one before: none at the first call, and an ask's answer. After want
     /// of memory the unit is unchanged.
     fn next(

@@ -11,12 +11,12 @@ use Rattle.sg_state.proofs.held.Held.graph.Goals as goal
 
 pub add_edges-requires-clause-places : goal.add_edges-requires-clause-places
 add_edges-requires-clause-places g c =
-    each_from (λ p. IsPlace p.1) c.all-places.result.now.entries (λ p m. each_at (λ p. IsPlace p.1) c.self.inside.places.entries ((c.self.invariant.0).places).each p ((c.all-places.ensures.exact p).0 m))
+    each_from (λ p. IsPlace p.1) c.all-places.result.now (λ p m. each_at (λ p. IsPlace p.1) c.self.inside.places.entries ((c.self.invariant.0).places).each p ((c.all-places.ensures.exact p).0 m))
 
 pub add_edges-requires-clause-there : goal.add_edges-requires-clause-there
 add_edges-requires-clause-there g c =
     let es = c.self.inside.places.entries in
-    let all = c.all-places.result.now.entries in
+    let all = c.all-places.result.now in
     let held = held_from es c.self.inside.made.items c.self.inside.lists.entries c.self.invariant.0 _ c.self.inside.parts.entries c.self.invariant.1 in
     let scopes = scopes_by c.new-graph.result c.add_scopes.new.graph c.in_ok-scopes.scopes.items (map (λ p. p.0) es) (same_things c.in_ok-scopes.scopes.items (map (λ p. p.0) all) (map (λ p. p.0) es) c.in_ok-scopes.ensures (same_images all es c.all-places.ensures.exact (λ p. p.0))) (rw c.deref.ensures.value at c.in_ok-add_scopes.ensures.ok) in
     λ e m. has_ends (seen es c.self.inside.made.items (rest_in c.self.inside.parts.entries)).graph c.new-graph.result c.add_scopes.new.graph held.graph c.new-graph.ensures scopes e ((same_parts all es c.all-places.ensures.exact edges_at e).0 m)
@@ -27,7 +27,7 @@ add_data-requires-clause-distinct g c = c.all-places.ensures.once
 pub add_data-requires-clause-there : goal.add_data-requires-clause-there
 add_data-requires-clause-there g c =
     let es = c.self.inside.places.entries in
-    let all = c.all-places.result.now.entries in
+    let all = c.all-places.result.now in
     let held = held_from es c.self.inside.made.items c.self.inside.lists.entries c.self.invariant.0 _ c.self.inside.parts.entries c.self.invariant.1 in
     let scopes = scopes_by c.new-graph.result c.add_scopes.new.graph c.in_ok-scopes.scopes.items (map (λ p. p.0) es) (same_things c.in_ok-scopes.scopes.items (map (λ p. p.0) all) (map (λ p. p.0) es) c.in_ok-scopes.ensures (same_images all es c.all-places.ensures.exact (λ p. p.0))) (rw c.deref.ensures.value at c.in_ok-add_scopes.ensures.ok) in
     let edges = edges_by c.add_scopes.new.graph c.add_edges.new.graph (flat_map edges_at all) (flat_map edges_at es) (same_parts all es c.all-places.ensures.exact edges_at) c.in_ok-add_edges.ensures.ok in
@@ -36,7 +36,7 @@ add_data-requires-clause-there g c =
 pub returns : goal.returns
 returns g c =
     let es = c.self.inside.places.entries in
-    let all = c.all-places.result.now.entries in
+    let all = c.all-places.result.now in
     let held = held_from es c.self.inside.made.items c.self.inside.lists.entries c.self.invariant.0 _ c.self.inside.parts.entries c.self.invariant.1 in
     let scopes = scopes_by c.new-graph.result c.add_scopes.new.graph c.in_ok-scopes.scopes.items (map (λ p. p.0) es) (same_things c.in_ok-scopes.scopes.items (map (λ p. p.0) all) (map (λ p. p.0) es) c.in_ok-scopes.ensures (same_images all es c.all-places.ensures.exact (λ p. p.0))) (rw c.deref.ensures.value at c.in_ok-add_scopes.ensures.ok) in
     let edges = edges_by c.add_scopes.new.graph c.add_edges.new.graph (flat_map edges_at all) (flat_map edges_at es) (same_parts all es c.all-places.ensures.exact edges_at) c.in_ok-add_edges.ensures.ok in

@@ -1,19 +1,20 @@
-use Rattle.std.proofs.Common.{Some, None, inl, inr, ap}
+use Rattle.std.proofs.Common.{Some, None, inl, inr, refl, sym}
 use Rattle.sg_state.specs.Place.{LosesUnit}
 use Rattle.sg_state.proofs.Changing.{place_ok}
-use Rattle.sg_state.specs.View.{PlacesOf}
-use Rattle.sg_state.proofs.InOrder.{place_here, place_changes}
+use Rattle.sg_state.proofs.InOrder.{place_here, place_changes, kept_by_place}
 use Rattle.sg_state.proofs.places.Places.leave.Goals as goal
-use Rattle.sg_state.proofs.places.Places.leave.Goals.{in-Some, in-None}
 
 pub leave-requires : goal.leave-requires
 leave-requires g c =
-    let here = place_here c.self.inside.found.entries c.self.invariant c.args.self.now c.self.view_is c.args.s (Some c.in-Some.place.now) c.in-Some.ensures.value in
-    record { place = place_ok c.args.self.now.entries c.args.s c.requires.places c.in-Some.place.now here }
+    let here = place_here c.self.inside.found.all.items c.self.invariant.0 c.args.self.now c.self.view_is c.args.s (Some (c.index_mut.result.now).1) (sym (c.in-Some.ensures.found.found c.index_mut.result.now c.index_mut.ensures.value)) in
+    record { place = place_ok c.args.self.now.entries c.args.s c.requires.places (c.index_mut.result.now).1 here }
 
-pub returns : goal.returns
-returns g c =
-    elim c.match-get_mut.branch [
-      | in-Some w ↦ rw w.self-inside-is (inl (place_changes c.self.inside.found.entries c.self.invariant c.args.self.now c.self.view_is c.args.s w.in-Some.place.now w.leave.new.self w.in-Some.ensures.value _ (c.get_mut.follows.holds w.leave.new.self).0 (λ p q. LosesUnit p q c.args.unit) w.leave.ensures.gone w.leave.ensures.place))
-      | in-None w ↦ inr (place_here c.self.inside.found.entries c.self.invariant c.args.self.now c.self.view_is c.args.s None w.in-None.ensures.value, rw (w.self-inside-is, c.get_mut.follows.holds-at-none) (ap (λ (p : PlacesOf _). p.entries) c.self.view_is))
-    ]
+pub invariant_of-self : goal.invariant_of-self
+invariant_of-self g c = rw (c.in-Some.ensures.found.written c.index_mut.result.now c.leave.new.self c.index_mut.ensures.value) (kept_by_place c.self.inside.found.all.items c.self.invariant.0 c.args.self.now c.self.view_is c.args.s c.self.inside.found.index c.leave.new.self c.self.invariant.1)
+
+pub returns-in-Some : goal.returns-in-Some
+returns-in-Some g c =
+    rw (c.in-Some.ensures.found.written c.index_mut.result.now c.leave.new.self c.index_mut.ensures.value) (inl (place_changes c.self.inside.found.all.items c.self.invariant.0 c.args.self.now c.self.view_is c.args.s (c.index_mut.result.now).1 c.leave.new.self (sym (c.in-Some.ensures.found.found c.index_mut.result.now c.index_mut.ensures.value)) _ refl (λ p q. LosesUnit p q c.args.unit) c.leave.ensures.gone c.leave.ensures.place))
+
+pub returns-in-None : goal.returns-in-None
+returns-in-None g c = inr (place_here c.self.inside.found.all.items c.self.invariant.0 c.args.self.now c.self.view_is c.args.s None (sym c.in-None.ensures.none), refl)

@@ -1,19 +1,24 @@
-use Rattle.std.proofs.Common.{Some, None}
+use Rattle.std.proofs.Common.{Some, None, refl, sym}
 use Rattle.sg_state.specs.Place.{AddsHolder}
 use Rattle.sg_state.proofs.Changing.{place_ok, key_found}
-use Rattle.sg_state.proofs.InOrder.{place_here, place_changes}
+use Rattle.sg_state.proofs.InOrder.{place_here, place_changes, kept_by_place}
 use Rattle.sg_state.proofs.places.Places.put_holder.Goals as goal
-use Rattle.sg_state.proofs.places.Places.put_holder.Goals.{in-Some+in_ok-give_row-in-Some, in-None}
 
 pub give_row-requires-clause-place : goal.give_row-requires-clause-place
 give_row-requires-clause-place g c =
-    let here = place_here c.self.inside.found.entries c.self.invariant c.args.self.now c.self.view_is c.args.s (Some c.in-Some.place.now) c.in-Some.ensures.value in
-    place_ok c.args.self.now.entries c.args.s c.requires.places c.in-Some.place.now here
+    let here = place_here c.self.inside.found.all.items c.self.invariant.0 c.args.self.now c.self.view_is c.args.s (Some (c.index_mut.result.now).1) (sym (c.in-Some.ensures.found.found c.index_mut.result.now c.index_mut.ensures.value)) in
+    place_ok c.args.self.now.entries c.args.s c.requires.places (c.index_mut.result.now).1 here
 
-pub returns : goal.returns
-returns g c = record {
-  ok = elim c.match-get_mut.branch [
-    | in-Some+in_ok-give_row-in-Some w ↦ rw (w.result-is, w.self-inside-is) (place_changes c.self.inside.found.entries c.self.invariant c.args.self.now c.self.view_is c.args.s w.in-Some.place.now w.give_row.new.self w.in-Some.ensures.value _ (c.get_mut.follows.holds w.give_row.new.self).0 (λ p q. AddsHolder p q c.args.label c.args.unit) w.in_ok-give_row-in-Some.ensures.ok w.in_ok-give_row-in-Some.ensures.place)
-    | in-None w ↦ absurd (key_found c.args.self.now.entries c.args.s c.requires.there (place_here c.self.inside.found.entries c.self.invariant c.args.self.now c.self.view_is c.args.s None w.in-None.ensures.value))
-  ];
+pub invariant_of-self : goal.invariant_of-self
+invariant_of-self g c = rw (c.in-Some.ensures.found.written c.index_mut.result.now c.give_row.new.self c.index_mut.ensures.value) (kept_by_place c.self.inside.found.all.items c.self.invariant.0 c.args.self.now c.self.view_is c.args.s c.self.inside.found.index c.give_row.new.self c.self.invariant.1)
+
+pub invariant_of-self-in-Some : goal.invariant_of-self-in-Some
+invariant_of-self-in-Some g c = rw (c.in-Some.ensures.found.written c.index_mut.result.now c.give_row.new.self c.index_mut.ensures.value) (kept_by_place c.self.inside.found.all.items c.self.invariant.0 c.args.self.now c.self.view_is c.args.s c.self.inside.found.index c.give_row.new.self c.self.invariant.1)
+
+pub returns-in_ok-give_row-in-Some : goal.returns-in_ok-give_row-in-Some
+returns-in_ok-give_row-in-Some g c = record {
+  ok = rw (c.in-Some.ensures.found.written c.index_mut.result.now c.give_row.new.self c.index_mut.ensures.value) (place_changes c.self.inside.found.all.items c.self.invariant.0 c.args.self.now c.self.view_is c.args.s (c.index_mut.result.now).1 c.give_row.new.self (sym (c.in-Some.ensures.found.found c.index_mut.result.now c.index_mut.ensures.value)) _ refl (λ p q. AddsHolder p q c.args.label c.args.unit) c.in_ok-give_row-in-Some.ensures.ok c.in_ok-give_row-in-Some.ensures.place);
 }
+
+pub returns-in-None : goal.returns-in-None
+returns-in-None g c = record { ok = absurd (key_found c.args.self.now.entries c.args.s c.requires.there (place_here c.self.inside.found.all.items c.self.invariant.0 c.args.self.now c.self.view_is c.args.s None (sym c.in-None.ensures.none))) }

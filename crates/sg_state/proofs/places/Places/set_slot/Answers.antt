@@ -1,16 +1,16 @@
-use Rattle.std.proofs.Common.{◌≡◌, Some, None}
+use Rattle.std.proofs.Common.{◌≡◌, Some, None, refl, sym}
 use Rattle.sg_state.proofs.Changing.{place_ok, key_found, same_rows}
-use Rattle.sg_state.proofs.InOrder.{place_here, place_changes}
+use Rattle.sg_state.proofs.InOrder.{place_here, place_changes, kept_by_place}
 use Rattle.sg_state.proofs.places.Places.set_slot.Goals as goal
-use Rattle.sg_state.proofs.places.Places.set_slot.Goals.{in-Some, in-None+in-Given-1, in-None+in-Waits-1}
 
-pub returns : goal.returns
-returns g c =
-    elim c.match-get_mut.branch [
-      | in-Some w ↦
-          let here = place_here c.self.inside.found.entries c.self.invariant c.args.self.now c.self.view_is c.args.s (Some w.in-Some.place.now) w.in-Some.ensures.value in
-          let old = place_ok c.args.self.now.entries c.args.s c.requires.places w.in-Some.place.now here in
-          rw w.self-inside-is (place_changes c.self.inside.found.entries c.self.invariant c.args.self.now c.self.view_is c.args.s w.in-Some.place.now w.set_slot.new.self w.in-Some.ensures.value _ (c.get_mut.follows.holds w.set_slot.new.self).0 (λ p q. q ≡ record { rows = p.rows; slot = c.args.slot }) w.set_slot.ensures (rw w.set_slot.ensures (same_rows w.in-Some.place.now c.args.slot old)))
-      | in-None+in-Given-1 w ↦ absurd (key_found c.args.self.now.entries c.args.s c.requires.there (place_here c.self.inside.found.entries c.self.invariant c.args.self.now c.self.view_is c.args.s None w.in-None.ensures.value))
-      | in-None+in-Waits-1 w ↦ absurd (key_found c.args.self.now.entries c.args.s c.requires.there (place_here c.self.inside.found.entries c.self.invariant c.args.self.now c.self.view_is c.args.s None w.in-None.ensures.value))
-    ]
+pub invariant_of-self : goal.invariant_of-self
+invariant_of-self g c = rw (c.in-Some.ensures.found.written c.index_mut.result.now c.set_slot.new.self c.index_mut.ensures.value) (kept_by_place c.self.inside.found.all.items c.self.invariant.0 c.args.self.now c.self.view_is c.args.s c.self.inside.found.index c.set_slot.new.self c.self.invariant.1)
+
+pub returns-in-Some : goal.returns-in-Some
+returns-in-Some g c =
+    let here = place_here c.self.inside.found.all.items c.self.invariant.0 c.args.self.now c.self.view_is c.args.s (Some (c.index_mut.result.now).1) (sym (c.in-Some.ensures.found.found c.index_mut.result.now c.index_mut.ensures.value)) in
+    let old = place_ok c.args.self.now.entries c.args.s c.requires.places (c.index_mut.result.now).1 here in
+    rw (c.in-Some.ensures.found.written c.index_mut.result.now c.set_slot.new.self c.index_mut.ensures.value) (place_changes c.self.inside.found.all.items c.self.invariant.0 c.args.self.now c.self.view_is c.args.s (c.index_mut.result.now).1 c.set_slot.new.self (sym (c.in-Some.ensures.found.found c.index_mut.result.now c.index_mut.ensures.value)) _ refl (λ p q. q ≡ record { rows = p.rows; slot = c.args.slot }) c.set_slot.ensures (rw c.set_slot.ensures (same_rows (c.index_mut.result.now).1 c.args.slot old)))
+
+pub returns-in-None : goal.returns-in-None
+returns-in-None g c = absurd (key_found c.args.self.now.entries c.args.s c.requires.there (place_here c.self.inside.found.all.items c.self.invariant.0 c.args.self.now c.self.view_is c.args.s None (sym c.in-None.ensures.none)))

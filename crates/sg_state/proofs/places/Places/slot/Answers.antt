@@ -1,17 +1,12 @@
-use Rattle.std.proofs.Common.{Some, None, sym}
+use Rattle.std.proofs.Common.{sym}
 use Rattle.sg_base.specs.Scope.{scope_cmp, scope_total}
 use Rattle.sg_base.proofs.Scopes.{equal_scope}
 use Rattle.sg_state.proofs.Changing.{key_found}
-use Rattle.sg_state.proofs.InOrder.{place_here}
 use Rattle.sg_state.proofs.Keyed.{found-Contains}
 use Rattle.sg_state.proofs.places.Places.slot.Goals as goal
 
 pub returns-in-Some-clause-found : goal.returns-in-Some-clause-found
-returns-in-Some-clause-found g c =
-    let here = place_here c.self.inside.found.entries c.self.invariant c.args.self.now c.self.view_is c.args.s (Some c.in-Some.place.now) c.in-Some.ensures.value in
-    (c.in-Some.place.now, found-Contains scope_cmp scope_total equal_scope c.args.self.now.entries c.args.s c.in-Some.place.now here, sym c.slot.ensures)
+returns-in-Some-clause-found g c = (c.in-Some.place.now, found-Contains scope_cmp scope_total equal_scope c.args.self.now.entries c.args.s c.in-Some.place.now c.in-Some.ensures, sym c.slot.ensures)
 
 pub returns-in-None-clause-none : goal.returns-in-None-clause-none
-returns-in-None-clause-none g c =
-    let here = place_here c.self.inside.found.entries c.self.invariant c.args.self.now c.self.view_is c.args.s None c.in-None.ensures.value in
-    λ h. key_found c.args.self.now.entries c.args.s h here
+returns-in-None-clause-none g c = λ h. key_found c.args.self.now.entries c.args.s h c.in-None.ensures
