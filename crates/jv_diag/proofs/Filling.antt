@@ -8,8 +8,8 @@ use Rattle.std.specs.Char.{encode_utf8}
 use Rattle.std.specs.Str.{encode_utf8_all}
 use Rattle.jv_diag.specs.Text.{texts, taken_by, takes, filled}
 
-pub text_below : (k n : ℕ) → takes k ≡ Some n → k < 58
-text_below k n e = elim (cases_lt k 58) [
+pub text_below : (k n : ℕ) → takes k ≡ Some n → k < 62
+text_below k n e = elim (cases_lt k 62) [
   | inl l ↦ l
   | inr m ↦ let none : takes k ≡ None = ap taken_by (get_or_past texts k [] m) in absurd (cc (e, none))
 ]

@@ -63,7 +63,11 @@ texts =
     codes "" ∷
     codes "$ cannot be cast to $" ∷
     codes "$ is final" ∷
-    codes "no enclosing instance for $" ∷ []
+    codes "no enclosing instance for $" ∷
+    codes "" ∷
+    codes "" ∷
+    codes "unreachable statement" ∷
+    codes "missing return in $" ∷ []
 
 -- the text of a code
 abbrev pub text_of : ℕ → List ℕ

@@ -37,7 +37,7 @@ fn last_lines(rt: HostRuntime) -> Result<(), Fail> {
 }
 
 /// The text of each code.
-const TEXTS: [(u8, &str); 48] = [
+const TEXTS: [(u8, &str); 50] = [
     (1, "not UTF-8"),
     (2, "syntax error"),
     (3, "bad literal"),
@@ -86,12 +86,14 @@ const TEXTS: [(u8, &str); 48] = [
     (55, "$ cannot be cast to $"),
     (56, "$ is final"),
     (57, "no enclosing instance for $"),
+    (60, "unreachable statement"),
+    (61, "missing return in $"),
 ];
 
 #[test]
 fn texts_of_codes(rt: HostRuntime) -> Result<(), Fail> {
     for (code, text) in TEXTS {
-        if code < 58 {
+        if code < 62 {
             assert_eq!(rt; text_of(code), text, "at {code}");
         }
     }

@@ -5,7 +5,7 @@ ghost use Rattle.jv_diag.specs.Text.{text_of};
 
 /// The texts in the order of their codes. Each `$` stands for an argument, one after another; a number that is no code has
 /// the empty text.
-const TEXTS: [&str; 58] = [
+const TEXTS: [&str; 62] = [
     "",
     "not UTF-8",
     "syntax error",
@@ -64,11 +64,15 @@ const TEXTS: [&str; 58] = [
     "$ cannot be cast to $",
     "$ is final",
     "no enclosing instance for $",
+    "",
+    "",
+    "unreachable statement",
+    "missing return in $",
 ];
 
 /// The text of a code, in constant time.
 pub(crate) fn text_of(code: u8) -> &'static str
-    requires { code < 58 }
+    requires { code < 62 }
     ensures { result.now ≡ text_of code }
 {
     TEXTS[code as usize]

@@ -58,7 +58,7 @@ module _ (count : ℕ) where
   plain_name_in at long n = tt
   plain_name_in at char n = tt
   plain_name_in at str n = tt
-  plain_name_in at bool n = tt
+  plain_name_in at (bool b) n = tt
   plain_name_in at null n = tt
   plain_name_in at this n = tt
   plain_name_in at (field x i) n = tt
@@ -124,7 +124,7 @@ module _ (site : SiteOf) (count : ℕ) (is : IsSiteIn count site) where
       typed_asks (expr at long) ds n = done_asks L count V _ tt
       typed_asks (expr at char) ds n = done_asks L count V _ tt
       typed_asks (expr at str) ds n = done_asks L count V _ string_type_in
-      typed_asks (expr at bool) ds n = done_asks L count V _ tt
+      typed_asks (expr at (bool b)) ds n = done_asks L count V _ tt
       typed_asks (expr at null) ds n = done_asks L count V _ tt
       typed_asks (expr at this) ds n = done_asks L count V (this_value site at ds) (this_in at ds)
       typed_asks (expr at (name ids)) ds n = name_value_asks site count is vs ids ds locals n

@@ -62,8 +62,8 @@ module _ (reply : Query JavaPred → Option (Answer JavaDatum)) (site : SiteOf) 
       pub str_case : e.kind ≡ Str → Reads reply (done (value (string_type site), ds)) r → Reads reply (typed site vs (expr_tree e) ds) r
       str_case is h = by_kind Str is h
 
-      pub bool_case : e.kind ≡ BoolKind → Reads reply (done (value (plain Boolean), ds)) r → Reads reply (typed site vs (expr_tree e) ds) r
-      bool_case is h = by_kind BoolKind is h
+      pub bool_case : (b : Bool) → e.kind ≡ BoolKind b → Reads reply (done (value (plain Boolean), ds)) r → Reads reply (typed site vs (expr_tree e) ds) r
+      bool_case b is h = by_kind (BoolKind b) is h
 
       pub null_case : e.kind ≡ Null → Reads reply (done (value (plain NullBase), ds)) r → Reads reply (typed site vs (expr_tree e) ds) r
       null_case is h = by_kind Null is h

@@ -30,7 +30,7 @@ abbrev mutual
   kind_size e.long = 1
   kind_size e.char = 1
   kind_size e.str = 1
-  kind_size e.bool = 1
+  kind_size (e.bool b) = 1
   kind_size e.null = 1
   kind_size e.this = 1
   kind_size (e.name ids) = 1

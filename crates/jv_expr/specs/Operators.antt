@@ -83,9 +83,9 @@ abbrev pub with_sealed : SiteOf → ℕ → Option NameId → List DiagOf → Li
 with_sealed site at None ds = ds
 with_sealed site at (Some n) ds = with_fault site at 56 (text_of site.names n.0 ∷ []) ds
 
--- what is assigned is no variable, or one that cannot be assigned; where its type is bad only the first is said
+-- what is assigned is no variable, or one that cannot be assigned; where its type is bad neither is said
 abbrev pub with_target : SiteOf → ℕ → Bool → Value → List DiagOf → List DiagOf
-with_target site at variable v ds = cond variable (cond (is_bad v.ty) ds (with_sealed site at v.sealed ds)) (with_fault site at 50 [] ds)
+with_target site at variable v ds = cond (is_bad v.ty) ds (cond variable (with_sealed site at v.sealed ds) (with_fault site at 50 [] ds))
 
 -- it is assigned with nothing wrong
 abbrev pub is_open : Bool → Value → Bool

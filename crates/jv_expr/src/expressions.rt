@@ -86,7 +86,7 @@ fn check_head(
         ExprKind::Long => Ok(literal(TypeBase::Long)),
         ExprKind::Char => Ok(literal(TypeBase::Char)),
         ExprKind::Str => Ok(value(string_type(site))),
-        ExprKind::Bool => Ok(literal(TypeBase::Boolean)),
+        ExprKind::Bool(_) => Ok(literal(TypeBase::Boolean)),
         ExprKind::Null => Ok(literal(TypeBase::Null)),
         ExprKind::This => {
             let v = this_value(alloc, site, e.at, ds)?;

@@ -125,7 +125,7 @@ fn add_sealed(
     }
 }
 
-/// Adds that what is assigned is no variable, or one that cannot be assigned.
+/// Adds that what is assigned is no variable, or one that cannot be assigned, unless its type is bad.
 fn add_target(
     alloc: Global,
     site: &Site<'_>,
@@ -136,11 +136,11 @@ fn add_target(
 ) -> Result<(), AllocError>
     ensures { OnOk result (ds.new ≡ with_target (site_of site.now) at variable v ds.old) }
 {
-    if !variable {
-        return add_fault(alloc, site, at, 50, &[], ds);
-    }
     if v.ty.is_bad() {
         return Ok(());
+    }
+    if !variable {
+        return add_fault(alloc, site, at, 50, &[], ds);
     }
     add_sealed(alloc, site, at, v.sealed, ds)
 }

@@ -60,14 +60,14 @@ both_package n m d = cut_if (starts_word word_package) (first_word _) (cut_next 
 
 -- what stands behind a dot of an import
 abbrev longer : Identifier → ℕ → List Terminal → Reads ImportTree
-longer i c xs = if starts star xs then Ok (record { name = i ∷ []; all = true }, rest_of xs) else (path_of c xs >>= λ r. Ok (record { name = i ∷ r.0.name; all = r.0.all }, r.1))
+longer i c xs = if starts star xs then Ok (record { name = i ∷ []; all = true; is_static = false }, rest_of xs) else (path_of c xs >>= λ r. Ok (record { name = i ∷ r.0.name; all = r.0.all; is_static = r.0.is_static }, r.1))
 
 pub both_path : (d n m : ℕ) → CutBoth (suc n) (suc m) d (path_of n) (path_of m)
 unfolding path_of
 both_path d = all_turns path_of path_of (λ xs. omega arith) (λ xs. omega arith) (λ n m more.
     cut_then _ _ (both_ident _ _ _) (λ i. cut_if (starts dot) (first_mark _)
-    (cut_turn {p = longer i n} {q = longer i m} (cut_if (starts star) (first_mark _) (cut_next (cut_done (record { name = i ∷ []; all = true }))) (cut_map (λ (x : ImportTree). record { name = i ∷ x.name; all = x.all }) more)))
-    (cut_done (record { name = i ∷ []; all = false }))))
+    (cut_turn {p = longer i n} {q = longer i m} (cut_if (starts star) (first_mark _) (cut_next (cut_done (record { name = i ∷ []; all = true; is_static = false }))) (cut_map (λ (x : ImportTree). record { name = i ∷ x.name; all = x.all; is_static = x.is_static }) more)))
+    (cut_done (record { name = i ∷ []; all = false; is_static = false }))))
 
 pub both_import : (n m d : ℕ) → CutBoth n m d import_of import_of
 unfolding import_of

@@ -318,13 +318,13 @@ name_no_star : {ids : List Identifier} {xs ys : List Terminal} → DerivesName i
 name_no_star name_one = refl
 name_no_star (name_more d) = refl
 
-pub path_one : {ids : List Identifier} {xs ys : List Terminal} → DerivesName ids xs ys → (k : ℕ) → starts dot ys ≡ false → length xs ≤ k → path_of k xs ≡ got_import (record { name = ids; all = false }) ys
+pub path_one : {ids : List Identifier} {xs ys : List Terminal} → DerivesName ids xs ys → (k : ℕ) → starts dot ys ≡ false → length xs ≤ k → path_of k xs ≡ got_import (record { name = ids; all = false; is_static = false }) ys
 unfolding path_of
 path_one d zero h l = absurd (omega (arith, less_name d))
 path_one name_one (suc k) h l = rw h refl
 path_one (name_more d) (suc k) h l = rw (name_no_star d) (rw (path_one d k h (omega arith)) refl)
 
-pub path_all : {ids : List Identifier} {p q : ℕ} {xs ys : List Terminal} → DerivesName ids xs (Punct p dot ∷ Punct q star ∷ ys) → (k : ℕ) → length xs ≤ k → path_of k xs ≡ got_import (record { name = ids; all = true }) ys
+pub path_all : {ids : List Identifier} {p q : ℕ} {xs ys : List Terminal} → DerivesName ids xs (Punct p dot ∷ Punct q star ∷ ys) → (k : ℕ) → length xs ≤ k → path_of k xs ≡ got_import (record { name = ids; all = true; is_static = false }) ys
 unfolding path_of
 path_all d zero l = absurd (omega (arith, less_name d))
 path_all name_one (suc k) l = refl

@@ -6,18 +6,19 @@ use Rattle.jv_tree.specs.declared.name.Ident.{Ident as Identifier}
 use Rattle.jv_tree.specs.ExprTree.{ExprTrees}
 use Rattle.jv_tree.specs.StmtTree.{VarTree, StmtTrees}
 use Rattle.jv_tree.specs.DeclTree.{ParamTree, TypeDeclTree, MemberTree, MemberTrees, ImportTree, UnitTree, members}
-use Rattle.jv_tree.specs.Shaped.{IsOneOf, IsName, AreShapedVars, AreShapedStmts, AreMods, IsShapedParam, IsShapedBlock, IsShapedCall, IsShapedOption, AreInitialized, IsShapedDecl, AreShapedMembers, IsPackage, IsShaped}
+use Rattle.jv_tree.specs.Shaped.{IsName, IsMod, AreShapedVars, AreShapedStmts, AreMods, IsShapedParam, IsShapedBlock, IsShapedCall, IsShapedOption, AreInitialized, IsShapedDecl, AreShapedMembers, IsPackage, IsShapedImport, IsShaped}
 use Rattle.jv_grammar.specs.declared.terminal.Terminal.{Terminal}
 use Rattle.jv_grammar.specs.Marks.{modifiers}
 use Rattle.jv_grammar.specs.TypeGrammar.{DerivesNames, names_one, names_more}
 use Rattle.jv_grammar.specs.DeclGrammar.{DerivesMods, mods_none, mods_more, DerivesParam, param_plain, param_final, DerivesSomeParams, some_params_one, some_params_more, DerivesParams, params_none, params_some, DerivesBody, body_block, body_none, DerivesCtor, ctor_plain, ctor_super, DerivesConstants, constants_one, constants_more, DerivesParent, parent_none, parent_some, DerivesParents, parents_none, parents_some, DerivesInterfaces, interfaces_none, interfaces_some, DerivesType, type_class, type_interface, DerivesClass, class, DerivesInterface, interface, DerivesMembers, members_none, members_more, members_empty, DerivesMember, member_type, member_field, member_method, member_ctor, DerivesImembers, imembers_none, imembers_more, imembers_empty, DerivesImember, imember_type, imember_field, imember_method, DerivesPackage, package_none, package_some, DerivesImport, import_one, import_all, DerivesImports, imports_none, imports_more, DerivesTypes, types_none, types_more, types_empty, Derives, file}
 use Rattle.jv_grammar.specs.DeclWidth.{wide_param, wide_some_params, wide_params, wide_body, wide_ctor, wide_constants, wide_type, wide_class, wide_interface, wide_members, wide_member, wide_imembers, wide_imember, wide_types, wide_file}
+use Rattle.jv_grammar.proofs.Read.{among}
 use Rattle.jv_grammar.proofs.Shape.{shape_name, shape_ty, shape_result, shape_init, shape_args}
 use Rattle.jv_grammar.proofs.StmtShape.{shape_vars, shape_block, shape_bstmts}
 
 pub shape_mods : {ks : List ℕ} {xs ys : List Terminal} → DerivesMods ks xs ys → AreMods ks
-shape_mods mods_none = All-nil (IsOneOf modifiers)
-shape_mods (mods_more {k} {ks} m d) = All-cons (IsOneOf modifiers) k ks m (shape_mods d)
+shape_mods mods_none = All-nil IsMod
+shape_mods (mods_more {k} {ks} m d) = All-cons IsMod k ks (among IsMod modifiers k (refl, (refl, (refl, (refl, (refl, (refl, tt)))))) m) (shape_mods d)
 
 pub shape_names : {ns : List (List Identifier)} {xs ys : List Terminal} → DerivesNames ns xs ys → All IsName ns
 shape_names (names_one {ids} d) = All-cons IsName ids [] (shape_name d) (All-nil IsName)
@@ -90,7 +91,7 @@ mutual
   shape_member ms (member_type d) w s = (shape_type d w, s)
   shape_member ms (member_field m d v) w s = (shape_mods m, shape_ty d (omega arith), shape_vars v (omega arith), (λ e. absurd (true≢false (sym e))), s)
   shape_member ms (member_method m d q b) w s =
-      ((shape_mods m, shape_result d (omega arith), shape_params q (omega arith), shape_body b (omega arith)), (λ e. absurd (true≢false (sym e))), s)
+      ((shape_mods m, shape_result d (omega arith), shape_params q (omega arith), shape_body b (omega arith)), s)
   shape_member ms (member_ctor m q c) w s =
       let k = shape_ctor c (omega arith) in
       ((shape_mods m, shape_params q (omega arith), k.0, k.1), refl, s)
@@ -106,22 +107,19 @@ mutual
       let k = shape_constants v (omega arith) in
       (shape_mods m, shape_ty d (omega arith), k.0, (λ e. k.1), s)
   shape_imember ms (imember_method m d q) w s =
-      ((shape_mods m, shape_result d (omega arith), shape_params q (omega arith), tt), (λ e. refl), s)
+      ((shape_mods m, shape_result d (omega arith), shape_params q (omega arith), tt), s)
 
 shape_package : {n : Option (List Identifier)} {xs ys : List Terminal} → DerivesPackage n xs ys → IsPackage n
 shape_package package_none = tt
 shape_package (package_some d) = shape_name d
 
-abbrev HasName : ImportTree → Type 0
-HasName i = IsName i.name
+shape_import : {i : ImportTree} {xs ys : List Terminal} → DerivesImport i xs ys → IsShapedImport i
+shape_import (import_one d) = (shape_name d, λ e one. absurd (true≢false (sym e)))
+shape_import (import_all d) = (shape_name d, λ e one. absurd (true≢false (sym e)))
 
-shape_import : {i : ImportTree} {xs ys : List Terminal} → DerivesImport i xs ys → HasName i
-shape_import (import_one d) = shape_name d
-shape_import (import_all d) = shape_name d
-
-shape_imports : {is : List ImportTree} {xs ys : List Terminal} → DerivesImports is xs ys → All HasName is
-shape_imports imports_none = All-nil HasName
-shape_imports (imports_more {x} {is} d r) = All-cons HasName x is (shape_import d) (shape_imports r)
+shape_imports : {is : List ImportTree} {xs ys : List Terminal} → DerivesImports is xs ys → All IsShapedImport is
+shape_imports imports_none = All-nil IsShapedImport
+shape_imports (imports_more {x} {is} d r) = All-cons IsShapedImport x is (shape_import d) (shape_imports r)
 
 shape_types : {ts : List TypeDeclTree} {xs ys : List Terminal} (d : DerivesTypes ts xs ys) → wide_types d ≤ 200 → All IsShapedDecl ts
 shape_types types_none w = All-nil IsShapedDecl

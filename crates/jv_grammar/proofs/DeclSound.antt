@@ -1,5 +1,5 @@
 -- What is read derives: declarations and files.
-use Rattle.std.proofs.Common.{◌≡◌, ℕ, zero, suc, ◌≤◌, ◌&&◌, not, ◌⊎◌, inl, inr, Bool, true, false, cond, nat_eq, List, [], ◌∷◌, length, arith, refl, sym, ap, ◌∙◌, subst, Ok, Some, None, Option}
+use Rattle.std.proofs.Common.{◌≡◌, ℕ, zero, suc, ◌≤◌, ◌&&◌, not, ◌⊎◌, inl, inr, Bool, true, false, cond, nat_eq, List, [], ◌∷◌, length, arith, refl, sym, ap, ◌∙◌, subst, true≢false, Ok, Some, None, Option}
 use Rattle.std.specs.List.{list_any}
 use borrow.Author.Tests.{eqb-true}
 use Rattle.jv_tree.specs.declared.name.Ident.{Ident as Identifier}
@@ -587,7 +587,7 @@ IsPath false ids xs ys = DerivesName ids xs ys
 IsPath true ids xs ys = (p : ℕ) × (q : ℕ) × DerivesName ids xs (Punct p dot ∷ Punct q star ∷ ys)
 
 abbrev FoundPath : List Terminal → ImportTree × List Terminal → Type 0
-FoundPath xs r = IsPath r.0.all r.0.name xs r.1
+FoundPath xs r = IsPath r.0.all r.0.name xs r.1 × (r.0.is_static ≡ false)
 
 longer_path : (b : Bool) (i : Identifier) (ids : List Identifier) (u : ℕ) (xs ys : List Terminal) → IsPath b ids xs ys → IsPath b (i ∷ ids) (Ident i ∷ Punct u dot ∷ xs) ys
 longer_path false i ids u xs ys d = name_more d
@@ -604,27 +604,29 @@ path_ok (suc k) xs r h =
         | inl v ↦ (let m = two_are dot star i.0.1 w.0 v.0 in
             let d : DerivesName (i.0.0 ∷ []) (Ident i.0.0 ∷ i.0.1) i.0.1 = name_one in
             let d' = subst (λ z. DerivesName (i.0.0 ∷ []) z i.0.1) (sym e) d in
-            subst (FoundPath xs) (ok_is v.1) (m.0, m.1, subst (DerivesName (i.0.0 ∷ []) xs) m.2 d'))
+            subst (FoundPath xs) (ok_is v.1) ((m.0, m.1, subst (DerivesName (i.0.0 ∷ []) xs) m.2 d'), refl))
         | inr v ↦ (let m = starts_is dot i.0.1 w.0 in
             let x = bind_ok (path_of k (rest_of i.0.1)) _ _ v.1 in
             let d = path_ok k (rest_of i.0.1) x.0 x.1 in
             subst (FoundPath xs) (ok_is x.2)
-            (subst (λ z. IsPath x.0.0.all (i.0.0 ∷ x.0.0.name) z x.0.1) (sym (e ∙ ap (λ z. Ident i.0.0 ∷ z) m.1)) (longer_path x.0.0.all i.0.0 x.0.0.name m.0 (rest_of i.0.1) x.0.1 d)))
+            (subst (λ z. IsPath x.0.0.all (i.0.0 ∷ x.0.0.name) z x.0.1) (sym (e ∙ ap (λ z. Ident i.0.0 ∷ z) m.1)) (longer_path x.0.0.all i.0.0 x.0.0.name m.0 (rest_of i.0.1) x.0.1 d.0), d.1))
       ]
-      | inr w ↦ subst (FoundPath xs) (ok_is w.1) (subst (λ z. DerivesName (i.0.0 ∷ []) z i.0.1) (sym e) name_one)
+      | inr w ↦ subst (FoundPath xs) (ok_is w.1) (subst (λ z. DerivesName (i.0.0 ∷ []) z i.0.1) (sym e) name_one, refl)
     ]
 
-is_import : (b : Bool) (ids : List Identifier) (p q : ℕ) (xs ys : List Terminal) → IsPath b ids xs (Punct q semicolon ∷ ys) → DerivesImport (record { name = ids; all = b }) (Keyword p word_import ∷ xs) ys
-is_import false ids p q xs ys d = import_one d
-is_import true ids p q xs ys (u, v, d) = import_all d
+is_import : (b s : Bool) (ids : List Identifier) (p q : ℕ) (xs ys : List Terminal) → s ≡ false → IsPath b ids xs (Punct q semicolon ∷ ys) → DerivesImport (record { name = ids; all = b; is_static = s }) (Keyword p word_import ∷ xs) ys
+is_import b true ids p q xs ys e d = absurd (true≢false e)
+is_import false false ids p q xs ys e d = import_one d
+is_import true false ids p q xs ys e (u, v, d) = import_all d
 
 pub derives_import : (p : ℕ) (xs : List Terminal) (r : ImportTree × List Terminal) → import_of xs ≡ Ok r → DerivesImport r.0 (Keyword p word_import ∷ xs) r.1
 unfolding import_of
 derives_import p xs r h =
     let x = bind_ok (path_of (length xs) xs) _ _ h in
     let q = closed_ok semicolon x.0.0 x.0.1 r x.2 in
-    let d = subst (IsPath x.0.0.all x.0.0.name xs) q.1 (path_ok (length xs) xs x.0 x.1) in
-    subst (λ z. DerivesImport z (Keyword p word_import ∷ xs) r.1) (sym q.2) (is_import x.0.0.all x.0.0.name p q.0 xs r.1 d)
+    let f = path_ok (length xs) xs x.0 x.1 in
+    let d = subst (IsPath x.0.0.all x.0.0.name xs) q.1 f.0 in
+    subst (λ z. DerivesImport z (Keyword p word_import ∷ xs) r.1) (sym q.2) (is_import x.0.0.all x.0.0.is_static x.0.0.name p q.0 xs r.1 f.1 d)
 
 pub derives_imports : (k : ℕ) (xs : List Terminal) (r : List ImportTree × List Terminal) → imports_of k xs ≡ Ok r → FoundImports xs r
 unfolding imports_of

@@ -60,7 +60,7 @@ literal_shaped Int = tt
 literal_shaped Long = tt
 literal_shaped Char = tt
 literal_shaped Str = tt
-literal_shaped BoolLiteral = tt
+literal_shaped (BoolLiteral b) = tt
 literal_shaped Null = tt
 
 sign_prefix : (o : ℕ) → IsOneOf signs o → IsOneOf prefix_operators o

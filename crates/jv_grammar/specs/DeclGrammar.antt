@@ -143,10 +143,10 @@ pub data DerivesPackage : Option (List Identifier) → List Terminal → List Te
 -- "import" name ["." "*"] ";"
 pub data DerivesImport : ImportTree → List Terminal → List Terminal → Type 0 where
   import_one : {ids : List Identifier} {p q : ℕ} {xs ys : List Terminal}
-      → DerivesName ids xs (Punct q semicolon ∷ ys) → DerivesImport (record { name = ids; all = false }) (Keyword p word_import ∷ xs) ys
+      → DerivesName ids xs (Punct q semicolon ∷ ys) → DerivesImport (record { name = ids; all = false; is_static = false }) (Keyword p word_import ∷ xs) ys
   import_all : {ids : List Identifier} {p q r u : ℕ} {xs ys : List Terminal}
       → DerivesName ids xs (Punct q dot ∷ Punct r star ∷ Punct u semicolon ∷ ys)
-      → DerivesImport (record { name = ids; all = true }) (Keyword p word_import ∷ xs) ys
+      → DerivesImport (record { name = ids; all = true; is_static = false }) (Keyword p word_import ∷ xs) ys
 
 -- {"import" name ["." "*"] ";"}
 pub data DerivesImports : List ImportTree → List Terminal → List Terminal → Type 0 where

@@ -202,9 +202,9 @@ unfoldable pub path_of : ℕ → List Terminal → Reads ImportTree
 path_of zero xs = Err xs
 path_of (suc c) xs = ident_of xs >>= λ i.
     if starts dot i.1
-    then (if starts star (rest_of i.1) then Ok (record { name = i.0 ∷ []; all = true }, rest_of (rest_of i.1))
-    else (path_of c (rest_of i.1) >>= λ r. Ok (record { name = i.0 ∷ r.0.name; all = r.0.all }, r.1)))
-    else Ok (record { name = i.0 ∷ []; all = false }, i.1)
+    then (if starts star (rest_of i.1) then Ok (record { name = i.0 ∷ []; all = true; is_static = false }, rest_of (rest_of i.1))
+    else (path_of c (rest_of i.1) >>= λ r. Ok (record { name = i.0 ∷ r.0.name; all = r.0.all; is_static = r.0.is_static }, r.1)))
+    else Ok (record { name = i.0 ∷ []; all = false; is_static = false }, i.1)
 
 -- an import behind its keyword
 unfoldable pub import_of : List Terminal → Reads ImportTree

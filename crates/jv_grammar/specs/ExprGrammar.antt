@@ -30,7 +30,7 @@ literal_tree Int = t.int
 literal_tree Long = t.long
 literal_tree Char = t.char
 literal_tree Str = t.str
-literal_tree BoolLiteral = t.bool
+literal_tree (BoolLiteral b) = t.bool b
 literal_tree Null = t.null
 
 -- the mark is an operator of the level; the number of `instanceof` is that of no mark

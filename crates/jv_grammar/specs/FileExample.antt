@@ -53,7 +53,7 @@ pub record FilesAreToldApart (a b c : Identifier) (p q : ℕ) : Type 0 where
   pub imports : Derives
       (Keyword q word_package ∷ Ident a ∷ Punct p dot ∷ Ident b ∷ Punct p semicolon ∷ Keyword q word_import ∷ Ident b ∷ Punct p semicolon
       ∷ Keyword q word_import ∷ Ident a ∷ Punct p dot ∷ Ident b ∷ Punct p dot ∷ Punct p star ∷ Punct p semicolon ∷ Punct p semicolon ∷ [])
-      (record { package_name = Some (a ∷ b ∷ []); imports = record { name = b ∷ []; all = false } ∷ record { name = a ∷ b ∷ []; all = true } ∷ []; types = [] })
+      (record { package_name = Some (a ∷ b ∷ []); imports = record { name = b ∷ []; all = false; is_static = false } ∷ record { name = a ∷ b ∷ []; all = true; is_static = false } ∷ []; types = [] })
   -- `import a.*.b;`, and an import behind a class, are nothing
   pub no_name_behind_star : IsNoFile (Keyword q word_import ∷ Ident a ∷ Punct p dot ∷ Punct p star ∷ Punct p dot ∷ Ident b ∷ Punct p semicolon ∷ [])
   pub no_import_behind : IsNoFile (in_class a p [] ++ Keyword q word_import ∷ Ident b ∷ Punct p semicolon ∷ [])

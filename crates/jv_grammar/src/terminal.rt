@@ -13,8 +13,8 @@ pub enum LiteralKind {
     Char,
     /// A string literal.
     Str,
-    /// `true` or `false`.
-    Bool,
+    /// `true` or `false`, by its value.
+    Bool(bool),
     /// `null`.
     Null,
 }

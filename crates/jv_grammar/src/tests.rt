@@ -14,7 +14,8 @@ fn terminal_of(token: Token) -> Terminal {
     let at = token.start;
     match token.kind {
         TokenKind::Ident => Terminal::Ident(Ident { at, id: NameId(0) }),
-        TokenKind::Keyword(50 | 51) => Terminal::Literal(at, LiteralKind::Bool),
+        TokenKind::Keyword(50) => Terminal::Literal(at, LiteralKind::Bool(true)),
+        TokenKind::Keyword(51) => Terminal::Literal(at, LiteralKind::Bool(false)),
         TokenKind::Keyword(52) => Terminal::Literal(at, LiteralKind::Null),
         TokenKind::Keyword(number) => Terminal::Keyword(at, number),
         TokenKind::Int => Terminal::Literal(at, LiteralKind::Int),

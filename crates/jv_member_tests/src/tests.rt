@@ -13,10 +13,10 @@ ghost use Rattle.jv_layout.specs.Sizes.{IsFolder, decl_names, body_names, unit_n
 use jv_diag::DiagList;
 use jv_instance::{JavaDatum, JavaPred, Ty, TypeBase, TypeList, labels};
 use jv_layout::{Layout, layout};
-use jv_member::check_members;
+use jv_member::{MemberDecl, Signature, check_members, resolve_signature};
 use jv_names::{Oracle, for_any, for_name, kinds};
 use jv_tree::nodes::{class_or_interface, method, method_member, type_ref, unit};
-use jv_tree::{Base, Ident, Member, Mods, Name, NameId, Names, TypeDecl, Unit};
+use jv_tree::{Base, Ident, Member, Method, Mods, Name, NameId, Names, TypeDecl, Unit};
 use sg_base::{Label, Scope, Step};
 use sg_query::{Answer, FoundPaths, FoundTree, Query};
 use sg_reading::Known;
@@ -409,5 +409,116 @@ fn inherited_methods_meet(rt: HostRuntime) -> Result<(), Fail> {
         let text = met(rt.alloc(), base, params)?;
         assert_eq!(rt; text.as_str(), wanted);
     }
+    Ok(())
+}
+
+/// A method without a body or parameters, at offset 5.
+fn method_giving(alloc: Global, base: Base) -> Result<Method, AllocError> {
+    let ty = type_ref(0, base, 0);
+    let mods = mods(alloc, &[34])?;
+    Ok(method(mods, ty, ident(5, M), Vec::new(alloc), None))
+}
+
+/// The type that is written `A`, at offset 2.
+fn named_a(alloc: Global) -> Result<Base, AllocError> {
+    let ids = vec![in alloc; ident(2, A)]?;
+    Ok(Base::Named(Name { ids }))
+}
+
+fn word_of(base: TypeBase) -> &'static str {
+    match base {
+        TypeBase::Int => "int",
+        TypeBase::Class(_) => "class",
+        TypeBase::Bad => "bad",
+        _ => "other",
+    }
+}
+
+/// The name, the result and the number of parameters of a signature, and then its diagnostics.
+fn signature_text(alloc: Global, signature: &Signature) -> Result<String, Fail> {
+    let mut text = String::new(alloc);
+    if let JavaDatum::Signature {
+        name,
+        result,
+        params,
+    } = &signature.datum
+    {
+        let count = params.as_slice().len();
+        write!(text, "{} {} {} ", name.0, word_of(result.base), count)?;
+    }
+    let diags = told(alloc, &signature.diags)?;
+    text.push_str(diags.as_str())?;
+    Ok(text)
+}
+
+/// The signature of a method of `B` by these replies; or that a reply is missing.
+fn resolved(
+    alloc: Global,
+    l: &Layout,
+    names: &Names,
+    o: &Oracle,
+    method: &Method,
+) -> Result<String, Fail> {
+    let member = MemberDecl::Method(method);
+    match resolve_signature(alloc, l, names, o, scope(10), NameId(B), &member)? {
+        Known::Is(signature) => signature_text(alloc, &signature),
+        Known::Need(query) => needed(alloc, &query),
+    }
+}
+
+/// The signature of a method of `B` with this result; or that a reply is missing.
+fn signature_giving(alloc: Global, base: Base, o: &Oracle) -> Result<String, Fail> {
+    let names = small_names(alloc)?;
+    let l = small_layout(alloc, &names, &[34])?;
+    let method = method_giving(alloc, base)?;
+    resolved(alloc, &l, &names, o, &method)
+}
+
+fn no_path(alloc: Global, start: Scope) -> Result<Answer<JavaDatum>, AllocError> {
+    let found = FoundTree::new(alloc, start);
+    Ok(Answer::Paths(FoundPaths::new(alloc, found)?))
+}
+
+/// Puts that `B` has no member type with the name `A`.
+fn put_no_member(alloc: Global, o: &mut Oracle) -> Result<(), AllocError> {
+    let query = for_name(kinds::MEMTYPE, scope(10), NameId(A));
+    let answer = no_path(alloc, query.start)?;
+    o.put(query, answer)
+}
+
+/// Puts what the file of `B` sees under the name `A`: that type, or nothing.
+fn put_seen(alloc: Global, o: &mut Oracle, is_seen: bool) -> Result<(), AllocError> {
+    let query = for_name(kinds::FILETYPE, scope(6), NameId(A));
+    if is_seen {
+        let steps = [step(labels::PKGOF, 1), step(labels::TYPE, 9)];
+        let datum = JavaDatum::TypeName { name: NameId(A) };
+        return put_path(alloc, o, query, &steps, datum);
+    }
+    let answer = no_path(alloc, query.start)?;
+    o.put(query, answer)
+}
+
+/// The signature of a method of `B` whose result is written `A`, where that is the type of this name, or nothing.
+fn signature_giving_a(alloc: Global, is_seen: bool) -> Result<String, Fail> {
+    let mut o = Oracle::new(alloc);
+    put_no_member(alloc, &mut o)?;
+    put_seen(alloc, &mut o, is_seen)?;
+    signature_giving(alloc, named_a(alloc)?, &o)
+}
+
+#[test]
+fn signatures_have_their_types_resolved(rt: HostRuntime) -> Result<(), Fail> {
+    let alloc = rt.alloc();
+    let o = Oracle::new(alloc);
+    assert_eq!(rt;
+        signature_giving(alloc, Base::Int, &o)?.as_str(),
+        "6 int 0 "
+    );
+    assert_eq!(rt;
+        signature_giving(alloc, named_a(alloc)?, &o)?.as_str(),
+        "needs 2 of 10"
+    );
+    assert_eq!(rt; signature_giving_a(alloc, true)?.as_str(), "6 class 0 ");
+    assert_eq!(rt; signature_giving_a(alloc, false)?.as_str(), "6 bad 0 20@2 ");
     Ok(())
 }

@@ -142,7 +142,11 @@ fn import_at(
     numbers: &[u32],
 ) -> Result<Resolved, Fail> {
     let name = name_of(alloc, numbers)?;
-    let import = Import { name, all };
+    let import = Import {
+        name,
+        all,
+        is_static: false,
+    };
     let found = resolve_import(alloc, &small.layout, &small.oracle, &import)?;
     known(found)
 }

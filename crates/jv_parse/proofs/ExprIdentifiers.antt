@@ -22,7 +22,7 @@ idents_of_literal Int = refl
 idents_of_literal Long = refl
 idents_of_literal Char = refl
 idents_of_literal Str = refl
-idents_of_literal Bool = refl
+idents_of_literal (Bool b) = refl
 idents_of_literal Null = refl
 
 -- a derivation takes the identifiers of its tree, and no other

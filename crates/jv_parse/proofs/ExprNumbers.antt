@@ -24,7 +24,7 @@ module _ (n : ℕ) where
   numbered_literal Long = tt
   numbered_literal Char = tt
   numbered_literal Str = tt
-  numbered_literal Bool = tt
+  numbered_literal (Bool b) = tt
   numbered_literal Null = tt
 
   -- a derivation gives its tree the identifiers of the terminals that it takes

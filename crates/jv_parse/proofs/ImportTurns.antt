@@ -54,10 +54,10 @@ module _ (n i : ℕ) (items : List Import) (xs : List Terminal) (h : i < n) wher
 
 -- the identifiers of an import's name that are read already, in front of what is read behind them
 abbrev pub path_onto : List Identifier → Reads ImportTree → Reads ImportTree
-path_onto front r = r >>= λ s. Ok (record { name = front ++ s.0.name; all = s.0.all }, s.1)
+path_onto front r = r >>= λ s. Ok (record { name = front ++ s.0.name; all = s.0.all; is_static = s.0.is_static }, s.1)
 
-abbrev pub some_path : List Terminal → Bool → List Identifier → Reads ImportTree
-some_path ys all ids = Ok (record { name = ids; all = all }, ys)
+abbrev pub some_path : List Terminal → Bool → Bool → List Identifier → Reads ImportTree
+some_path ys all is_static ids = Ok (record { name = ids; all = all; is_static = is_static }, ys)
 
 abbrev pub path_read : List Terminal → ImportTree → Reads ImportTree
 path_read ys t = Ok (t, ys)
@@ -70,16 +70,16 @@ path_nil (Ok s) = refl
 path_nil (Err e) = refl
 
 path_push : (ids : List Identifier) (i : Identifier) (r : Reads ImportTree)
-    → path_onto (ids ++ i ∷ []) r ≡ path_onto ids (r >>= λ s. some_path s.1 s.0.all (i ∷ s.0.name))
-path_push ids i (Ok s) = ap (some_path s.1 s.0.all) (append_assoc ids (i ∷ []) s.0.name)
+    → path_onto (ids ++ i ∷ []) r ≡ path_onto ids (r >>= λ s. some_path s.1 s.0.all s.0.is_static (i ∷ s.0.name))
+path_push ids i (Ok s) = ap (some_path s.1 s.0.all s.0.is_static) (append_assoc ids (i ∷ []) s.0.name)
 path_push ids i (Err e) = refl
 
 abbrev path_turn : ℕ → List Terminal → Reads ImportTree
 path_turn c xs = ident_of xs >>= λ i.
     if starts dot i.1
-    then (if starts star (rest_of i.1) then some_path (rest_of (rest_of i.1)) true (i.0 ∷ [])
-    else (path_of c (rest_of i.1) >>= λ r. some_path r.1 r.0.all (i.0 ∷ r.0.name)))
-    else some_path i.1 false (i.0 ∷ [])
+    then (if starts star (rest_of i.1) then some_path (rest_of (rest_of i.1)) true false (i.0 ∷ [])
+    else (path_of c (rest_of i.1) >>= λ r. some_path r.1 r.0.all r.0.is_static (i.0 ∷ r.0.name)))
+    else some_path i.1 false false (i.0 ∷ [])
 
 path_at : (c : ℕ) (xs : List Terminal) → path_of (suc c) xs ≡ path_turn c xs
 unfolding path_of
@@ -106,11 +106,11 @@ module _ (n i : ℕ) (ids : List Identifier) (xs : List Terminal) (h : i < n) wh
     read : ident_of xs ≡ Ok (j, ys)
     read = rw is refl
 
-    pub path_done : starts dot ys ≡ false → path_onto ids (path_of (n - i) xs) ≡ some_path ys false (ids ++ j ∷ [])
+    pub path_done : starts dot ys ≡ false → path_onto ids (path_of (n - i) xs) ≡ some_path ys false false (ids ++ j ∷ [])
     path_done s = rw (path_now, read, s) refl
 
     module _ (ts : List Terminal) (s : starts dot ys ≡ true) (at : ts ≡ rest_of ys) where
-      pub path_all : (zs : List Terminal) → starts star ts ≡ true → zs ≡ rest_of ts → path_onto ids (path_of (n - i) xs) ≡ some_path zs true (ids ++ j ∷ [])
+      pub path_all : (zs : List Terminal) → starts star ts ≡ true → zs ≡ rest_of ts → path_onto ids (path_of (n - i) xs) ≡ some_path zs true false (ids ++ j ∷ [])
       path_all zs a at' = rw (path_now, read, s, ← at, a, ← at') refl
 
       pub path_next : starts star ts ≡ false → path_onto (ids ++ j ∷ []) (path_of (n - (i + 1)) ts) ≡ path_onto ids (path_of (n - i) xs)

@@ -5,7 +5,7 @@ use Rattle.std.proofs.lemmas.List.{map-append, length-append}
 use Rattle.std.proofs.lemmas.Bool.{cases_Bool}
 use Rattle.std.proofs.lemmas.Slice.Eq.{bytes_eq-Decides}
 use Rattle.std.specs.List.{list_any, fold, All, AllByRecursion}
-use Rattle.std.specs.Prelude.{slice_get, nat_eq, ◌||◌}
+use Rattle.std.specs.Prelude.{slice_get, nat_eq}
 use Rattle.std.proofs.lemmas.List.Elements.{All-head, All-tail}
 use Rattle.std.specs.Result.{OnErr}
 use Rattle.std.specs.Str.{bytes_eq}
@@ -202,15 +202,16 @@ number_below : (names : List (List ℕ)) (x : List ℕ) → IsKnown names x → 
 number_below names x h = some_below names (number_of names x) x (number_found names h.0 x h.1)
 
 -- a terminal in front of numbered ones
-numbered_word : (n at w : ℕ) (b c : Bool) (xs : List Terminal) → AreNumberedTerminals n xs
-    → AreNumberedTerminals n (cond b (t.Literal at l.Bool) (cond c (t.Literal at l.Null) (t.Keyword at w)) ∷ xs)
-numbered_word n at w true c xs h = h
-numbered_word n at w false true xs h = h
-numbered_word n at w false false xs h = h
+numbered_word : (n at w : ℕ) (a b c : Bool) (xs : List Terminal) → AreNumberedTerminals n xs
+    → AreNumberedTerminals n (cond a (t.Literal at (l.Bool true)) (cond b (t.Literal at (l.Bool false)) (cond c (t.Literal at l.Null) (t.Keyword at w))) ∷ xs)
+numbered_word n at w true b c xs h = h
+numbered_word n at w false true c xs h = h
+numbered_word n at w false false true xs h = h
+numbered_word n at w false false false xs h = h
 
 numbered_front : (kind : TokenKind) (at m n : ℕ) (xs : List Terminal) → (is_identifier kind ≡ true → m < n) → AreNumberedTerminals n xs → AreNumberedTerminals n (terminal_at kind at m ∷ xs)
 numbered_front k.Ident at m n xs i h = (i refl, h)
-numbered_front (k.Keyword w) at m n xs i h = numbered_word n at w (nat_eq w 50 || nat_eq w 51) (nat_eq w 52) xs h
+numbered_front (k.Keyword w) at m n xs i h = numbered_word n at w (nat_eq w 50) (nat_eq w 51) (nat_eq w 52) xs h
 numbered_front k.Int at m n xs i h = h
 numbered_front k.Long at m n xs i h = h
 numbered_front k.Minimum at m n xs i h = h

@@ -1,5 +1,5 @@
 -- Tokens as terminals of the grammar: an identifier has the number of its text among the names.
-use Rattle.std.specs.Prelude.{◌≡◌, ℕ, suc, Bool, true, false, cond, List, [], ◌∷◌, ◌||◌, map, filter, fold, Some, slice_get, slice_range, if◌then◌else◌, nat_eq}
+use Rattle.std.specs.Prelude.{◌≡◌, ℕ, suc, Bool, true, false, cond, List, [], ◌∷◌, map, filter, fold, Some, slice_get, slice_range, if◌then◌else◌, nat_eq}
 use Rattle.std.specs.Str.{bytes_eq}
 use Rattle.jv_lex.specs.declared.token.Token.{Token}
 use Rattle.jv_lex.specs.declared.token.TokenKind.{TokenKind}
@@ -36,7 +36,7 @@ number_of (y ∷ ys) x = cond (bytes_eq x y) 0 (suc (number_of ys x))
 
 -- a keyword by its number; `true`, `false` and `null` are literals
 abbrev pub word_at : ℕ → ℕ → Terminal
-word_at at n = if nat_eq n 50 || nat_eq n 51 then t.Literal at l.Bool else if nat_eq n 52 then t.Literal at l.Null else t.Keyword at n
+word_at at n = if nat_eq n 50 then t.Literal at (l.Bool true) else if nat_eq n 51 then t.Literal at (l.Bool false) else if nat_eq n 52 then t.Literal at l.Null else t.Keyword at n
 
 -- a token of a kind, at a place; an identifier has this number
 abbrev pub terminal_at : TokenKind → ℕ → ℕ → Terminal

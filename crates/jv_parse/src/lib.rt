@@ -11,5 +11,6 @@ mod naming;
 mod parse_fault;
 mod parser;
 
+pub use naming::name_tokens;
 pub use parse_fault::ParseFault;
-pub use parser::{PARSE_STACK, parse};
+pub use parser::{PARSE_STACK, parse, parse_terminals};

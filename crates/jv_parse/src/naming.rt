@@ -19,7 +19,7 @@ const NULL: u8 = 52;
 
 /// The tokens of a source as terminals. The texts of its identifiers become names, and the names that were there keep
 /// their numbers, with or without an error. It takes time in the source.
-pub(crate) fn name_tokens(
+pub fn name_tokens(
     alloc: Global,
     source: &str,
     tokens: &[Token],
@@ -65,10 +65,8 @@ fn terminal_at(kind: TokenKind, at: u32, id: NameId) -> Terminal
 {
     match kind {
         TokenKind::Ident => Terminal::Ident(Ident { at, id }),
-        TokenKind::Keyword(TRUE) | TokenKind::Keyword(FALSE) => Terminal::Literal(
-            at,
-            LiteralKind::Bool,
-        ),
+        TokenKind::Keyword(TRUE) => Terminal::Literal(at, LiteralKind::Bool(true)),
+        TokenKind::Keyword(FALSE) => Terminal::Literal(at, LiteralKind::Bool(false)),
         TokenKind::Keyword(NULL) => Terminal::Literal(at, LiteralKind::Null),
         TokenKind::Keyword(number) => Terminal::Keyword(at, number),
         TokenKind::Int => Terminal::Literal(at, LiteralKind::Int),

@@ -64,11 +64,11 @@ pub fn parse(
     ensures names { AddsNames source.now tokens.now names.old names.new }
 {
     let terminals = name_tokens(alloc, source, tokens, names)?;
-    tree(alloc, &terminals)
+    parse_terminals(alloc, &terminals)
 }
 
-/// The tree of terminals.
-fn tree(alloc: Global, terminals: &[Terminal]) -> Result<Unit, ParseFault>
+/// The tree of terminals, as `parse` says, for who has named the tokens by `name_tokens`.
+pub fn parse_terminals(alloc: Global, terminals: &[Terminal]) -> Result<Unit, ParseFault>
     requires { length terminals.now < 2 ^ 32 }
     ensures { Says terminals.now result }
 {

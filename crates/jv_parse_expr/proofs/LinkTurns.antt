@@ -1,5 +1,5 @@
 -- Turns of the loop that reads the operators of a level, and the levels.
-use Rattle.std.proofs.Common.{◌≡◌, ℕ, zero, suc, ◌+◌, ◌-◌, ◌<◌, ◌≤◌, Bool, true, false, List, [], ◌∷◌, ◌++◌, length, ap, sym, ◌∙◌, refl, arith, true≢false, nat_eq, drop, Ok, Err, Option, Some, None, if◌then◌else◌, ◌&&◌}
+use Rattle.std.proofs.Common.{◌≡◌, ℕ, zero, suc, ◌+◌, ◌-◌, ◌<◌, ◌≤◌, Bool, true, false, List, [], ◌∷◌, ◌++◌, length, ap, sym, ◌∙◌, subst, refl, arith, true≢false, nat_eq, drop, Ok, Err, Option, Some, None, if◌then◌else◌, ◌&&◌}
 use Rattle.std.specs.List.{list_any}
 use Rattle.std.specs.Option.{option_map}
 use Rattle.std.proofs.lemmas.List.{drop_more}
@@ -7,7 +7,6 @@ use Rattle.jv_tree.specs.declared.expression.Operand.{Operand}
 use Rattle.jv_tree.specs.ExprTree as t
 use Rattle.jv_tree.specs.ExprTree.{ExprTree, LinkTrees, link_trees, operand_tree}
 use Rattle.jv_tree.specs.Shaped.{levels, instance_of}
-use Rattle.jv_grammar.specs.declared.form.Form.{Form}
 use Rattle.jv_grammar.specs.declared.form.Form.TheVariants.{Other}
 use Rattle.jv_grammar.specs.declared.terminal.Terminal.{Terminal}
 use Rattle.jv_grammar.specs.declared.terminal.Terminal.TheVariants.{Ident, Keyword, Literal, Minimum, MinimumLong, Punct}
@@ -17,7 +16,7 @@ use Rattle.jv_grammar.specs.Reader.{Reads, ◌>>=◌}
 use Rattle.jv_grammar.specs.TypeReader.{reference_of}
 use Rattle.jv_grammar.specs.ExprReader.{Parsed, Below, links_of, bin_of, unary_of, chained, is_mark_of}
 use Rattle.jv_parse_expr.specs.declared.fault.Fault.{Fault}
-use Rattle.jv_parse_expr.specs.View.{Fails, Link, no_link, some_link, link_of, link_tree, level_at, tighter_than}
+use Rattle.jv_parse_expr.specs.View.{Fails, Link, no_link, some_link, link_of, link_tree, level_at, tighter_than, HasNoLink, HasNoLinks}
 use Rattle.jv_parse_expr.proofs.Faults.{fails_bind}
 
 abbrev pub links_front : List (ℕ × ℕ × Operand) → LinkTrees → LinkTrees
@@ -129,13 +128,17 @@ bin_at : (b : Below) (level : List ℕ) (tighter : List (List ℕ)) (xs : List T
 unfolding bin_of
 bin_at b level tighter xs = refl
 
-pub chained_none : (r : Parsed) (ls : List (ℕ × ℕ × Operand)) → length ls ≡ 0 → chained r (link_trees ls) ≡ r
-chained_none r [] h = refl
-chained_none r (x ∷ xs) h = absurd (omega arith)
+-- an expression that operators make
+abbrev pub other_form : ExprTree → Parsed
+other_form x = (Other, x)
 
-pub chained_some : (r : Parsed) (ls : List (ℕ × ℕ × Operand)) → 0 < length ls → chained r (link_trees ls) ≡ (Other, t.expr (at_of r.1) (t.chain r.1 (link_trees ls)))
+pub chained_some : (r : Parsed) (ls : List (ℕ × ℕ × Operand)) → 0 < length ls → chained r (link_trees ls) ≡ other_form (t.expr (at_of r.1) (t.chain r.1 (link_trees ls)))
 chained_some r [] h = absurd (omega arith)
 chained_some r (x ∷ xs) h = refl
+
+pub pos_of : (n : ℕ) → false ≡ nat_eq n 0 → 0 < n
+pos_of zero h = absurd (true≢false (sym h))
+pos_of (suc n) h = omega arith
 
 abbrev parsed_at : List Terminal → Parsed → Reads Parsed
 parsed_at ys r = Ok (r, ys)
@@ -147,34 +150,65 @@ module _ (b : Below) (k : ℕ) (xs : List Terminal) (h : k < 10) where
   bin_step : bin_of b (drop k levels) xs ≡ bin_turn b (tighter_than k) (level_at k) xs
   bin_step = ap (λ l. bin_of b l xs) levels_split ∙ bin_at b (level_at k) (tighter_than k) xs
 
-  pub bin_failed : (e : Fault) → Fails e (bin_of b (tighter_than k) xs) → Fails e (bin_of b (drop k levels) xs)
+  bin_failed : (e : Fault) → Fails e (bin_of b (tighter_than k) xs) → Fails e (bin_of b (drop k levels) xs)
   bin_failed e f = rw bin_step (fails_bind e (bin_of b (tighter_than k) xs) _ f)
 
-  module _ (f : Form) (x : ExprTree) (ys : List Terminal) (r : bin_of b (tighter_than k) xs ≡ Ok ((f, x), ys)) where
+  bin_passed : (r : Parsed) (ys : List Terminal) → bin_of b (tighter_than k) xs ≡ parsed_at ys r → HasNoLink k ys → bin_of b (drop k levels) xs ≡ parsed_at ys r
+  bin_passed r ys read none = rw (bin_step, read, links_at (bin_of b (tighter_than k)) (level_at k) (length xs) ys, none (bin_of b (tighter_than k))) refl
+
+  module _ (r : Parsed) (ys : List Terminal) (read : bin_of b (tighter_than k) xs ≡ parsed_at ys r) where
     count_is : suc (length xs) ≡ length xs + 1
     count_is = omega arith
 
-    pub bin_links_failed : (e : Fault) → Fails e (links_of (bin_of b (tighter_than k)) (level_at k) (length xs + 1) ys) → Fails e (bin_of b (drop k levels) xs)
-    bin_links_failed e w = rw (bin_step, r, count_is) (fails_bind e (links_of (bin_of b (tighter_than k)) (level_at k) (length xs + 1) ys) _ w)
+    bin_links_failed : (e : Fault) → Fails e (links_of (bin_of b (tighter_than k)) (level_at k) (length xs + 1) ys) → Fails e (bin_of b (drop k levels) xs)
+    bin_links_failed e w = rw (bin_step, read, count_is) (fails_bind e (links_of (bin_of b (tighter_than k)) (level_at k) (length xs + 1) ys) _ w)
 
-    pub bin_read : (ls : List (ℕ × ℕ × Operand)) (zs : List Terminal) → links_of (bin_of b (tighter_than k)) (level_at k) (length xs + 1) ys ≡ some_links zs (link_trees ls)
-        → bin_of b (drop k levels) xs ≡ parsed_at zs (chained (f, x) (link_trees ls))
-    bin_read ls zs w = rw (bin_step, r, count_is, w) refl
+    bin_linked : (ls : LinkTrees) (zs : List Terminal) → links_of (bin_of b (tighter_than k)) (level_at k) (length xs + 1) ys ≡ some_links zs ls
+        → bin_of b (drop k levels) xs ≡ parsed_at zs (chained r ls)
+    bin_linked ls zs w = rw (bin_step, read, count_is, w) refl
 
-    pub bin_alone : (ls : List (ℕ × ℕ × Operand)) (zs : List Terminal) → links_of (bin_of b (tighter_than k)) (level_at k) (length xs + 1) ys ≡ some_links zs (link_trees ls) → length ls ≡ 0
-        → bin_of b (drop k levels) xs ≡ parsed_at zs (f, x)
-    bin_alone ls zs w none = bin_read ls zs w ∙ ap (parsed_at zs) (chained_none (f, x) ls none)
+-- down to a level from one that binds tighter
+module _ (b : Below) (k : ℕ) (xs : List Terminal) where
+  climb_failed : (d n : ℕ) → n ≡ d + k → n ≤ 10 → (e : Fault) → Fails e (bin_of b (drop n levels) xs) → Fails e (bin_of b (drop k levels) xs)
+  climb_failed zero n is h e f = let same : n ≡ k = omega (arith, is) in subst (λ m. Fails e (bin_of b (drop m levels) xs)) same f
+  climb_failed (suc d) n is h e f =
+      let next : n ≡ d + k + 1 = omega (arith, is) in
+      climb_failed d (d + k) refl (omega (arith, h, is)) e (bin_failed b (d + k) xs (omega (arith, h, is)) e (subst (λ m. Fails e (bin_of b (drop m levels) xs)) next f))
 
-    pub bin_chain : (ls : List (ℕ × ℕ × Operand)) (zs : List Terminal) (y : ExprTree) → links_of (bin_of b (tighter_than k)) (level_at k) (length xs + 1) ys ≡ some_links zs (link_trees ls) → 0 < length ls
-        → y ≡ t.expr (at_of x) (t.chain x (link_trees ls)) → bin_of b (drop k levels) xs ≡ parsed_at zs (Other, y)
-    bin_chain ls zs y w some is = bin_read ls zs w ∙ ap (parsed_at zs) (chained_some (f, x) ls some ∙ ap other_form (sym is))
-      where
-        other_form : ExprTree → Parsed
-        other_form z = (Other, z)
+  climb_passed : (d n : ℕ) → n ≡ d + k → n ≤ 10 → (r : Parsed) (ys : List Terminal) → bin_of b (drop n levels) xs ≡ parsed_at ys r → HasNoLinks k n ys
+      → bin_of b (drop k levels) xs ≡ parsed_at ys r
+  climb_passed zero n is h r ys read none = let same : n ≡ k = omega (arith, is) in subst (λ m. bin_of b (drop m levels) xs ≡ parsed_at ys r) same read
+  climb_passed (suc d) n is h r ys read none =
+      let next : n ≡ d + k + 1 = omega (arith, is) in
+      climb_passed d (d + k) refl (omega (arith, h, is)) r ys
+      (bin_passed b (d + k) xs (omega (arith, h, is)) r ys (subst (λ m. bin_of b (drop m levels) xs ≡ parsed_at ys r) next read)
+      (none (d + k) (omega arith) (omega (arith, is))))
+      (λ j low high. none j low (omega (arith, high, is)))
 
-pub bin_last : (b : Below) (k : ℕ) (xs : List Terminal) → k ≡ 10 → bin_of b (drop k levels) xs ≡ unary_of b xs
-bin_last b k xs h = ap (λ n. bin_of b (drop n levels) xs) h ∙ no_levels b xs
+module _ (b : Below) (k n : ℕ) (xs : List Terminal) (h : n ≤ 10) (low : k ≤ n) where
+  deep : n ≡ n - k + k
+  deep = omega (arith, low)
 
-pub pos_of : (n : ℕ) → false ≡ nat_eq n 0 → 0 < n
-pos_of zero h = absurd (true≢false (sym h))
-pos_of (suc n) h = omega arith
+  pub sunk_failed : (f : Fault) → Fails f (bin_of b (drop n levels) xs) → Fails f (bin_of b (drop k levels) xs)
+  sunk_failed f w = climb_failed b k xs (n - k) n deep h f w
+
+  pub sunk : (r : Parsed) (ys : List Terminal) → bin_of b (drop n levels) xs ≡ Ok (r, ys) → HasNoLinks k n ys → bin_of b (drop k levels) xs ≡ Ok (r, ys)
+  sunk r ys read none = climb_passed b k xs (n - k) n deep h r ys read none
+
+pub unary_failed : (b : Below) (k : ℕ) (xs : List Terminal) → k ≤ 10 → (f : Fault) → Fails f (unary_of b xs) → Fails f (bin_of b (drop k levels) xs)
+unary_failed b k xs h f w = sunk_failed b k 10 xs (omega arith) h f (rw (no_levels b xs) w)
+
+pub unary_read : (b : Below) (xs : List Terminal) (r : Parsed) (ys : List Terminal) → unary_of b xs ≡ Ok (r, ys) → bin_of b (drop 10 levels) xs ≡ Ok (r, ys)
+unary_read b xs r ys read = no_levels b xs ∙ read
+
+-- at an operator of the level l, behind what was read with the levels from n on
+module _ (b : Below) (l n : ℕ) (xs : List Terminal) (h : n ≤ 10) (low : l < n) (r : Parsed) (ys : List Terminal) (read : bin_of b (drop n levels) xs ≡ Ok (r, ys)) (none : HasNoLinks (l + 1) n ys) where
+  tight : bin_of b (tighter_than l) xs ≡ parsed_at ys r
+  tight = sunk b (l + 1) n xs h (omega (arith, low)) r ys read none
+
+  pub climbs_failed : (k : ℕ) → k ≤ l → (f : Fault) → Fails f (links_of (bin_of b (tighter_than l)) (level_at l) (length xs + 1) ys) → Fails f (bin_of b (drop k levels) xs)
+  climbs_failed k at f w = sunk_failed b k l xs (omega (arith, h, low)) at f (bin_links_failed b l xs (omega (arith, h, low)) r ys tight f w)
+
+  pub climbs : (ls : LinkTrees) (zs : List Terminal) (s : Parsed) → links_of (bin_of b (tighter_than l)) (level_at l) (length xs + 1) ys ≡ Ok (ls, zs) → s ≡ chained r ls
+      → bin_of b (drop l levels) xs ≡ Ok (s, zs)
+  climbs ls zs s w is = bin_linked b l xs (omega (arith, h, low)) r ys tight ls zs w ∙ ap (parsed_at zs) (sym is)

@@ -1,5 +1,5 @@
 -- What a function that reads terminals returns, against a reader: what it read, or how many terminals are left where one was refused.
-use Rattle.std.specs.Prelude.{◌≡◌, ◌&&◌, ◌+◌, ◌<◌, ℕ, Bool, true, false, nat_eq, List, [], ◌∷◌, length, Option, Some, None, Result, Ok, Err, get_or, drop, if◌then◌else◌}
+use Rattle.std.specs.Prelude.{◌≡◌, ◌&&◌, ◌+◌, ◌<◌, ◌≤◌, ℕ, Bool, true, false, nat_eq, List, [], ◌∷◌, length, Option, Some, None, Result, Ok, Err, get_or, drop, if◌then◌else◌}
 use Rattle.std.specs.List.{list_any}
 use Rattle.std.specs.Borrow.{Bor}
 use Rattle.jv_tree.specs.declared.expression.Expr.{Expr}
@@ -94,6 +94,14 @@ level_at k = get_or levels k []
 -- the levels that bind tighter than that of a number
 abbrev pub tighter_than : ℕ → List (List ℕ)
 tighter_than k = drop (k + 1) levels
+
+-- no operator of the level of a number stands first
+abbrev pub HasNoLink : ℕ → List Terminal → Type 0
+HasNoLink k xs = (operand : List Terminal → Reads Parsed) → link_of operand (level_at k) xs ≡ no_link xs
+
+-- no operator of a level from the one number to below the other stands first
+abbrev pub HasNoLinks : ℕ → ℕ → List Terminal → Type 0
+HasNoLinks low high xs = (k : ℕ) → low ≤ k → k < high → HasNoLink k xs
 
 -- an operator of the code with its operand
 abbrev pub link_tree : ℕ × ℕ × Operand → Link

@@ -1,11 +1,11 @@
 //! Expressions and initializers (JLS 10.6, 15.14 to 15.26).
 
-ghost use Rattle.std.specs.Prelude.{◌≡◌, ◌+◌, ◌<◌, ◌≤◌, drop, length, Ok, Err, MatchOption};
+ghost use Rattle.std.specs.Prelude.{◌≡◌, ◌+◌, ◌<◌, ◌≤◌, drop, length, Ok, Err, IfOk, MatchOption};
 ghost use Rattle.std.specs.Option.{option_map};
 ghost use Rattle.jv_tree.specs.ExprTree.{ExprTree, expr_tree, init_tree, link_trees};
 ghost use Rattle.jv_tree.specs.Shaped.{levels};
 ghost use Rattle.jv_grammar.specs.declared.form.Form.{Form as FormOf};
-ghost use Rattle.jv_grammar.specs.ExprReader.{below, post_of, cast_of, signed_of, unary_of, links_of, bin_of, cond_of, expr_of, init_of};
+ghost use Rattle.jv_grammar.specs.ExprReader.{below, post_of, cast_of, signed_of, unary_of, links_of, bin_of, chained, cond_of, expr_of, init_of};
 ghost use Rattle.jv_parse_expr.specs.View.{Gives, shown, link_of, link_tree, level_at, tighter_than};
 
 use crate::fault::{Fault, refused};
@@ -15,14 +15,14 @@ use crate::marks::{
     WORD_INSTANCEOF,
 };
 use crate::nested::{Read, nested_conditional, nested_expression, nested_unary};
-use crate::operators::{has_instanceof, is_assignment, is_operator, is_sign, is_step};
+use crate::operators::{has_instanceof, is_assignment, is_operator, is_sign, is_step, level_ahead};
 use crate::primaries::primary;
 use crate::steps::steps;
 use crate::terminals::{begins_plain, behind, split};
 use crate::types::{cast_ahead, is_bare, reference, ty};
 use jv_grammar::{Form, Terminal};
-use jv_tree::{Init, Operand, nodes};
-use std::alloc::Global;
+use jv_tree::{Expr, Init, Operand, nodes};
+use std::alloc::{AllocError, Global};
 
 /// A primary with the `++` and `--` behind it.
 #[cycle(parser)]
@@ -165,33 +165,54 @@ fn links<'a>(
     Err(refused(rest))
 }
 
+/// An operand with the operators behind it, if there are any.
+fn with_links(
+    alloc: Global,
+    form: Form,
+    first: Expr,
+    links: Vec<(u32, u8, Operand)>,
+) -> Result<(Form, Expr), AllocError>
+    ensures { IfOk result (λ r. (r.0, expr_tree r.1) ≡ chained (form, expr_tree first) (link_trees links.items)) }
+{
+    if links.is_empty() {
+        return Ok((form, first));
+    }
+    let at = first.at;
+    Ok((Form::Other, nodes::chain(alloc, at, first, links)?))
+}
+
 /// Operands and operators with two operands, of the level and those that bind tighter; the level 10 has no operators.
+///
+/// Behind the first operand the levels are taken from the tightest on, and only those of which an operator stands there.
 #[cycle(parser)]
 #[tactic(auto, using(crate::proofs::Faults::fails_bind))]
 fn binary<'a>(alloc: Global, fuel: u32, level: u8, terminals: &'a [Terminal]) -> Read<'a>
     requires { level ≤ 10 }
     ensures { Gives shown result (bin_of (below fuel) (drop level levels) terminals.now) }
 {
-    if level == 10 {
-        return unary(alloc, fuel, terminals);
-    }
-    let (form, first, rest) = match binary(alloc, fuel, level + 1, terminals) {
+    let (form, first, behind) = match unary(alloc, fuel, terminals) {
         Ok(read) => read,
         Err(fault) => return Err(fault),
     };
-    let (items, after) = match links(alloc, fuel, level, terminals.len() + 1, rest) {
-        Ok(read) => read,
-        Err(fault) => return Err(fault),
-    };
-    if items.is_empty() {
-        return Ok((form, first, after));
+    let mut outer = form;
+    let mut inner = first;
+    let mut rest = behind;
+    let mut held = 10;
+    while let Some(next) = level_ahead(level, held, rest) {
+        let (items, after) = match links(alloc, fuel, next, terminals.len() + 1, rest) {
+            Ok(read) => read,
+            Err(fault) => return Err(fault),
+        };
+        let (form, whole) = match with_links(alloc, outer, inner, items) {
+            Ok(whole) => whole,
+            Err(fault) => return Err(Fault::from(fault)),
+        };
+        outer = form;
+        inner = whole;
+        rest = after;
+        held = next;
     }
-    let at = first.at;
-    let whole = match nodes::chain(alloc, at, first, items) {
-        Ok(whole) => whole,
-        Err(fault) => return Err(Fault::from(fault)),
-    };
-    Ok((Form::Other, whole, after))
+    Ok((outer, inner, rest))
 }
 
 /// An expression that is no assignment.

@@ -62,7 +62,7 @@ pub fn literal(at: u32, kind: LiteralKind) -> Expr
         LiteralKind::Long => nodes::long_literal(at),
         LiteralKind::Char => nodes::char_literal(at),
         LiteralKind::Str => nodes::string_literal(at),
-        LiteralKind::Bool => nodes::bool_literal(at),
+        LiteralKind::Bool(value) => nodes::bool_literal(at, value),
         LiteralKind::Null => nodes::null_literal(at),
     }
 }

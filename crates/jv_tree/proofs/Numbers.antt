@@ -39,7 +39,7 @@ module _ (m n : ℕ) (more : m ≤ n) where
     kind_stays e.long h = tt
     kind_stays e.char h = tt
     kind_stays e.str h = tt
-    kind_stays e.bool h = tt
+    kind_stays (e.bool b) h = tt
     kind_stays e.null h = tt
     kind_stays e.this h = tt
     kind_stays (e.name ids) h = name_stays ids h

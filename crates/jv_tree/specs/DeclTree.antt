@@ -55,10 +55,11 @@ mutual
     no_members : MemberTrees
     members : MemberTree → MemberTrees → MemberTrees
 
--- an import: its name, and whether it imports all that stands under it
+-- an import: its name, whether it imports all that stands under it, and whether `static` stands behind its word
 pub record ImportTree : Type 0 where
   pub name : List Ident
   pub all : Bool
+  pub is_static : Bool
 
 -- a file: its package, where it names one, its imports, and the types that it declares
 pub record UnitTree : Type 0 where
@@ -111,7 +112,7 @@ type_decl_tree d = type_decl d.name d.mods.words.items d.interface (map ids_of d
 
 -- the pure tree of an import
 abbrev pub import_tree : Import → ImportTree
-import_tree i = record { name = ids_of i.name; all = i.all }
+import_tree i = record { name = ids_of i.name; all = i.all; is_static = i.is_static }
 
 -- the pure tree of a file
 abbrev pub tree_of : File → UnitTree

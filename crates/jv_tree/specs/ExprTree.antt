@@ -1,8 +1,8 @@
 -- Expressions, without memory (JLS 15).
-use Rattle.std.specs.Prelude.{ℕ, zero, suc, List, [], ◌∷◌}
+use Rattle.std.specs.Prelude.{ℕ, Bool, zero, suc, List, [], ◌∷◌}
 use Rattle.jv_tree.specs.declared.name.Ident.{Ident}
 use Rattle.jv_tree.specs.declared.expression.Expr.{Expr}
-use Rattle.jv_tree.specs.declared.expression.ExprKind.{ExprKind, Int, Long, Char, Str, Bool, Null, This, Name, Field', SuperField, Call', Index', New', NewArray', NewList', Pre', Post', Chain', Cast', Cond', Assign', Row_of-Expr, end_of-Expr, more_of-Expr, Row_of-Init, end_of-Init, more_of-Init, Row_of-ExprKind-Chain-1-3, end_of-ExprKind-Chain-1-3, more_of-ExprKind-Chain-1-3}
+use Rattle.jv_tree.specs.declared.expression.ExprKind.{ExprKind, Int, Long, Char, Str, Bool as BoolKind, Null, This, Name, Field', SuperField, Call', Index', New', NewArray', NewList', Pre', Post', Chain', Cast', Cond', Assign', Row_of-Expr, end_of-Expr, more_of-Expr, Row_of-Init, end_of-Init, more_of-Init, Row_of-ExprKind-Chain-1-3, end_of-ExprKind-Chain-1-3, more_of-ExprKind-Chain-1-3}
 use Rattle.jv_tree.specs.declared.expression.Init.{Init, One', List'}
 use Rattle.jv_tree.specs.declared.expression.Operand.{Operand, Expr', Of}
 use Rattle.jv_tree.specs.declared.expression.Target.{Target, Bare, On', Super}
@@ -19,7 +19,7 @@ mutual
     long : KindTree
     char : KindTree
     str : KindTree
-    bool : KindTree
+    bool : Bool → KindTree
     null : KindTree
     this : KindTree
     name : List Ident → KindTree
@@ -76,7 +76,7 @@ abbrev mutual
   kind_tree Long = long
   kind_tree Char = char
   kind_tree Str = str
-  kind_tree Bool = bool
+  kind_tree (BoolKind b) = bool b
   kind_tree Null = null
   kind_tree This = this
   kind_tree (Name n) = name (ids_of n)

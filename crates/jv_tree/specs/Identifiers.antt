@@ -39,7 +39,7 @@ abbrev mutual
   idents_kind e.long = 0
   idents_kind e.char = 0
   idents_kind e.str = 0
-  idents_kind e.bool = 0
+  idents_kind (e.bool b) = 0
   idents_kind e.null = 0
   idents_kind e.this = 0
   idents_kind (e.name ids) = length ids

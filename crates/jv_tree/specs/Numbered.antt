@@ -47,7 +47,7 @@ abbrev mutual
   IsNumberedKind n e.long = Unit {0}
   IsNumberedKind n e.char = Unit {0}
   IsNumberedKind n e.str = Unit {0}
-  IsNumberedKind n e.bool = Unit {0}
+  IsNumberedKind n (e.bool b) = Unit {0}
   IsNumberedKind n e.null = Unit {0}
   IsNumberedKind n e.this = Unit {0}
   IsNumberedKind n (e.name ids) = IsNumberedName n ids

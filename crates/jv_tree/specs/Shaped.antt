@@ -92,7 +92,7 @@ abbrev mutual
   IsShapedKind e.long = Unit {0}
   IsShapedKind e.char = Unit {0}
   IsShapedKind e.str = Unit {0}
-  IsShapedKind e.bool = Unit {0}
+  IsShapedKind (e.bool b) = Unit {0}
   IsShapedKind e.null = Unit {0}
   IsShapedKind e.this = Unit {0}
   IsShapedKind (e.name ids) = IsName ids
@@ -211,9 +211,13 @@ abbrev mutual
   IsShapedElse s.no_else = Unit {0}
   IsShapedElse (s.otherwise t) = IsBody t × IsShapedStmt t
 
--- the modifiers `public protected private static abstract final`, by the numbers of their keywords
+-- one of the modifiers `public protected private static abstract final default`, by the number of its keyword
+abbrev pub IsMod : ℕ → Type 0
+IsMod n = IsOneOf (34 ∷ 33 ∷ 32 ∷ 37 ∷ 0 ∷ 17 ∷ 11 ∷ []) n
+
+-- modifiers, by the numbers of their keywords
 abbrev pub AreMods : List ℕ → Type 0
-AreMods ns = All (IsOneOf (34 ∷ 33 ∷ 32 ∷ 37 ∷ 0 ∷ 17 ∷ [])) ns
+AreMods ns = All IsMod ns
 
 -- the type of a parameter is a type of the grammar
 abbrev pub IsShapedParam : ParamTree → Type 0
@@ -251,12 +255,12 @@ abbrev mutual
   pub IsShapedDecl : TypeDeclTree → Type 0
   IsShapedDecl (d.type_decl n ms i es is xs) = AreMods ms × IsHeader i es is × AreShapedMembers i xs
 
-  -- the members of an interface have initializers, no bodies, and are no constructors
+  -- the variables of an interface have initializers, and none of its members is a constructor
   pub AreShapedMembers : Bool → MemberTrees → Type 0
   AreShapedMembers i d.no_members = Unit {0}
   AreShapedMembers i (d.members (d.nested t) xs) = IsShapedDecl t × AreShapedMembers i xs
   AreShapedMembers i (d.members (d.field ms t vs) xs) = AreMods ms × IsType t × AreShapedVars vs × (i ≡ true → AreInitialized vs) × AreShapedMembers i xs
-  AreShapedMembers i (d.members (d.method m) xs) = IsShapedMethod m × (i ≡ true → m.body ≡ None) × AreShapedMembers i xs
+  AreShapedMembers i (d.members (d.method m) xs) = IsShapedMethod m × AreShapedMembers i xs
   AreShapedMembers i (d.members (d.ctor c) xs) = IsShapedCtor c × (i ≡ false) × AreShapedMembers i xs
 
 -- the package of a file, where one is named, has at least one identifier
@@ -264,9 +268,13 @@ abbrev pub IsPackage : Option (List Ident) → Type 0
 IsPackage None = Unit {0}
 IsPackage (Some ids) = IsName ids
 
+-- an import has a name, and the name of a single static one has two identifiers at least: a type, and what it brings of it
+abbrev pub IsShapedImport : ImportTree → Type 0
+IsShapedImport i = IsName i.name × (i.is_static ≡ true → i.all ≡ false → 1 < length i.name)
+
 -- the tree of a file has the shape of the grammar
 abbrev pub IsShaped : UnitTree → Type 0
-IsShaped u = IsPackage u.package_name × All (λ i. IsName i.name) u.imports × All IsShapedDecl u.types
+IsShaped u = IsPackage u.package_name × All IsShapedImport u.imports × All IsShapedDecl u.types
 
 -- a type with 200 pairs of brackets is one; `void`, and a type with 201 pairs, are none
 abbrev pub TypesAreToldApart : Type 0
@@ -292,3 +300,5 @@ ShapesAreToldApart = (at : ℕ) (n : Ident)
     × (IsShapedExpr (e.expr at (e.chain (number_tree at) e.no_links)) → ⊥)
     × (IsShapedExpr (e.expr at (e.assign at 12 (number_tree at) (number_tree at))) → ⊥)
     × (IsShapedDecl (d.type_decl n [] true [] [] (d.members (d.ctor (record { mods = []; name = n; params = []; call = None; body = s.no_stmts })) d.no_members)) → ⊥)
+    × (IsShapedImport (record { name = n ∷ []; all = false; is_static = true }) → ⊥)
+    × IsShapedImport (record { name = n ∷ []; all = true; is_static = true })

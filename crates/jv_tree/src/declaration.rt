@@ -19,11 +19,13 @@ pub struct Unit {
     pub types: Vec<TypeDecl>,
 }
 
-/// An import; `all` says that it is on demand, by `.*` (JLS 7.5).
+/// An import; `all` says that it is on demand, by `.*` (JLS 7.5), and `is_static` that `static` stands behind its word
+/// (JLS 7.5.3, 7.5.4).
 #[derive(Drop)]
 pub struct Import {
     pub name: Name,
     pub all: bool,
+    pub is_static: bool,
 }
 
 /// A class or an interface (JLS 8.1, 9.1).

@@ -30,7 +30,7 @@ pub enum ExprKind {
     Long,
     Char,
     Str,
-    Bool,
+    Bool(bool),
     Null,
     This,
     Name(Name),
@@ -84,7 +84,7 @@ impl Drop for ExprKind {
                 | ExprKind::Long
                 | ExprKind::Char
                 | ExprKind::Str
-                | ExprKind::Bool
+                | ExprKind::Bool(_)
                 | ExprKind::Null
                 | ExprKind::This
                 | ExprKind::SuperField(_) => return,

@@ -10,7 +10,7 @@ pub fn types_are_told_apart()
 {}
 
 /// A file may be empty; the body of a loop declares no variable, the head of a `for` has no `;` alone, a chain has
-/// operators of one level, and an interface has no constructor.
+/// operators of one level, an interface has no constructor, and an import of one identifier is static only on demand.
 pub fn shapes_are_told_apart()
     ensures { ShapesAreToldApart }
 {}

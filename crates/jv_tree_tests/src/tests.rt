@@ -2,11 +2,12 @@
 
 use jv_tree::nodes::{
     assignment, bare, block, bool_literal, call, cast, chain, conditional, do_loop, effect, empty,
-    field, for_loop, if_else, index, int_literal, name_expression, on, operand, postfix, prefix,
-    this, type_ref, while_loop,
+    field, for_loop, if_else, import, index, int_literal, name_expression, on, operand, postfix,
+    prefix, this, type_ref, while_loop,
 };
 use jv_tree::{
-    Base, Expr, ExprKind, Ident, Name, NameId, Names, Step, StepKind, Stmt, StmtKind, Target,
+    Base, Expr, ExprKind, Ident, Import, Name, NameId, Names, Step, StepKind, Stmt, StmtKind,
+    Target,
 };
 use std::alloc::{AllocError, Global};
 use std::test::Fail;
@@ -152,7 +153,7 @@ fn chosen(alloc: Global) -> Result<Expr, AllocError> {
     conditional(
         alloc,
         30,
-        bool_literal(30),
+        bool_literal(30, true),
         converted(alloc)?,
         int_literal(40),
     )
@@ -193,10 +194,43 @@ fn choices(rt: HostRuntime) -> Result<(), Fail> {
     Ok(())
 }
 
+/// Whether a literal is `true` or `false`, as it is to be.
+fn has_value(literal: &Expr, wanted: bool) -> bool {
+    literal.at == 3 && matches!(&literal.kind, ExprKind::Bool(value) if *value == wanted)
+}
+
+#[test]
+fn literals_keep_their_value(rt: HostRuntime) -> Result<(), Fail> {
+    let yes = bool_literal(3, true);
+    let no = bool_literal(3, false);
+    assert!(rt; has_value(&yes, true) && !has_value(&yes, false));
+    assert!(rt; has_value(&no, false) && !has_value(&no, true));
+    Ok(())
+}
+
+/// An import of a name of one identifier.
+fn imported(alloc: Global, all: bool, is_static: bool) -> Result<Import, AllocError> {
+    let ids = vec![in alloc; ident(7)]?;
+    Ok(import(Name { ids }, all, is_static))
+}
+
+/// Whether an import is of one identifier, on demand and static as it is to be.
+fn is_import(import: &Import, all: bool, is_static: bool) -> bool {
+    import.name.ids.len() == 1 && import.all == all && import.is_static == is_static
+}
+
+#[test]
+fn imports(rt: HostRuntime) -> Result<(), Fail> {
+    let alloc = rt.alloc();
+    assert!(rt; is_import(&imported(alloc, true, false)?, true, false));
+    assert!(rt; is_import(&imported(alloc, false, true)?, false, true));
+    Ok(())
+}
+
 /// A loop over a block of one statement.
 fn looped(alloc: Global) -> Result<Stmt, AllocError> {
     let body = block(9, vec![in alloc; empty(10)]?);
-    while_loop(alloc, 1, bool_literal(7), body)
+    while_loop(alloc, 1, bool_literal(7, true), body)
 }
 
 fn while_has_its_parts(alloc: Global) -> Result<bool, AllocError> {
@@ -205,7 +239,7 @@ fn while_has_its_parts(alloc: Global) -> Result<bool, AllocError> {
 }
 
 fn do_has_its_parts(alloc: Global) -> Result<bool, AllocError> {
-    let repeated = do_loop(alloc, 20, looped(alloc)?, bool_literal(30))?;
+    let repeated = do_loop(alloc, 20, looped(alloc)?, bool_literal(30, false))?;
     Ok(matches!(&repeated.kind, StmtKind::Do(body, test) if body.at == 1 && test.at == 30))
 }
 
@@ -222,7 +256,14 @@ fn round(alloc: Global) -> Result<Stmt, AllocError> {
     let called = call(40, bare(), ident(40), Vec::new(alloc));
     let first = vec![in alloc; effect(40, called)]?;
     let after = vec![in alloc; int_literal(50)]?;
-    for_loop(alloc, 35, first, Some(bool_literal(45)), after, empty(60))
+    for_loop(
+        alloc,
+        35,
+        first,
+        Some(bool_literal(45, false)),
+        after,
+        empty(60),
+    )
 }
 
 fn is_round(round: &Stmt) -> bool {
@@ -242,7 +283,7 @@ fn rounds(rt: HostRuntime) -> Result<(), Fail> {
 
 /// A branch.
 fn one_branch(alloc: Global) -> Result<Vec<(Expr, Stmt)>, AllocError> {
-    let branches = vec![in alloc; (bool_literal(60), empty(65))]?;
+    let branches = vec![in alloc; (bool_literal(60, true), empty(65))]?;
     Ok(branches)
 }
 

@@ -38,10 +38,10 @@ use Rattle.jv_unit.specs.declared.begun_type.BegunType.{BegunType}
 use Rattle.jv_unit.specs.declared.begun_type.BegunType.TheVariants.{Head, Checks}
 use Rattle.jv_unit.specs.Checks.{Check, declaration, overriding, meeting, calling, body, checks_of}
 use Rattle.jv_unit.specs.Folder.{FolderOf}
-use Rattle.jv_unit.specs.MemberBodies.{member_body, own_body, type_blanks}
+use Rattle.jv_unit.specs.MemberBodies.{member_body, member_flow, own_body, type_blanks}
 use Rattle.jv_unit.specs.Owns.{own_at}
-use Rattle.jv_unit.specs.Plans.{all_checks, calling_rule, check_rule, declaration_part, declaration_rule, meeting_rule, member_signature, overriding_rule, type_ending, with_checks}
-use Rattle.jv_unit.specs.Progress.{AreSoFar, IsHeadSoFar, IsSoFar, Replies, check_in, check_left, head_left, member_left, own_left, whole_rule}
+use Rattle.jv_unit.specs.Plans.{all_checks, body_rule, calling_rule, check_rule, declaration_part, declaration_rule, meeting_rule, member_signature, overriding_rule, type_ending, with_checks}
+use Rattle.jv_unit.specs.Progress.{AreSoFar, IsCheckSoFar, IsHeadSoFar, IsSoFar, Replies, check_begun, check_in, check_left, head_left, member_left, own_left, whole_rule}
 use Rattle.jv_unit.specs.Trees.{decl_at, extends_of}
 use Rattle.jv_unit.proofs.CheckPlaces.{body_at, calling_at, declaration_at, meeting_at, overriding_at}
 use Rattle.jv_unit.proofs.HeadRules.{head_ends, head_so_far_first, head_stops, header_unknown}
@@ -66,8 +66,7 @@ module _ (l : LayoutOf) (names : List (List ℕ)) (c : Scope) (extends : List (L
 -- ---- one body
 
 module _ (reply : Replies) (w : FolderOf) (t : ℕ) (blanks : List Scope) (m : ℕ) where
-  new_body : (p : BodyProgress) → p.begun ≡ None → HasResidual reply (check_rule w t blanks (body m)) (check_left w t blanks (body m) p)
-  unfolding check_rule check_left
+  new_body : (p : BodyProgress) → p.begun ≡ None → HasResidual reply (member_body w t blanks m) (member_left w t blanks m p)
   new_body p new =
       residual_here reply (member_body w t blanks m) (member_left w t blanks m p) (sym (new_own w.layout w.names (type_scope w.layout t) (extends_of (decl_at w.files t)) p new blanks (member_scope w.layout m) (own_at w.files m)))
 
@@ -79,19 +78,23 @@ module _ (reply : Replies) (w : FolderOf) (t : ℕ) (blanks : List Scope) (m : �
     left_is : (p : BodyProgress) → own_left l names c es bs s o p ≡ member_left w t blanks m p
     left_is p i = own_left (layout i) (named i) (type i) (extends i) (blank i) (scope i) (own i) p
 
-    pub body_read : (x : Result (List DiagOf) (Stop (Query JavaPred))) → Reads reply (own_body l names c es bs s o) x → Reads reply (check_rule w t blanks (body m)) x
-    unfolding check_rule
+    pub body_read : (x : Result (List DiagOf) (Stop (Query JavaPred))) → Reads reply (own_body l names c es bs s o) x → Reads reply (member_body w t blanks m) x
     body_read x h = subst (λ (r : Rule (List DiagOf)). Reads reply r x) body_is h
 
-    pub body_reached : (p : BodyProgress) → HasResidual reply (own_body l names c es bs s o) (own_left l names c es bs s o p) → HasResidual reply (check_rule w t blanks (body m)) (check_left w t blanks (body m) p)
-    unfolding check_rule check_left
+    pub body_reached : (p : BodyProgress) → HasResidual reply (own_body l names c es bs s o) (own_left l names c es bs s o p) → HasResidual reply (member_body w t blanks m) (member_left w t blanks m p)
     body_reached p h = subst (λ (r : Rule (List DiagOf)). HasResidual reply (member_body w t blanks m) r) (left_is p) (subst (λ (r : Rule (List DiagOf)). HasResidual reply r (own_left l names c es bs s o p)) body_is h)
 
-    pub own_reached : (p : BodyProgress) → HasResidual reply (check_rule w t blanks (body m)) (check_left w t blanks (body m) p) → HasResidual reply (own_body l names c es bs s o) (own_left l names c es bs s o p)
-    unfolding check_rule check_left
+    pub own_reached : (p : BodyProgress) → HasResidual reply (member_body w t blanks m) (member_left w t blanks m p) → HasResidual reply (own_body l names c es bs s o) (own_left l names c es bs s o p)
     own_reached p h =
         subst (λ (r : Rule (List DiagOf)). HasResidual reply (own_body l names c es bs s o) r) (sym (left_is p))
         (subst (λ (r : Rule (List DiagOf)). HasResidual reply r (member_left w t blanks m p)) (sym body_is) h)
+
+  -- and the flow through it
+  pub flow_unknown : (e : Stop (Query JavaPred)) (x : Result (List DiagOf) (Stop (Query JavaPred))) → IsErrAnd x (λ y. y ≡ e) → Reads {U = List DiagOf} reply (member_body w t blanks m) (Err e) → Reads reply (body_rule w t blanks m) x
+  flow_unknown e x k h = stops reply (body_rule w t blanks m) e x k (then_err reply (member_body w t blanks m) (λ ds. done (ds ++ member_flow w t m)) e h)
+
+  pub flow_read : (ds : List DiagOf) (x : Result (List DiagOf) (Stop (Query JavaPred))) → Reads reply (member_body w t blanks m) (Ok ds) → MatchResult x (λ es. es ≡ ds ++ member_flow w t m) (λ stop. stop ≡ OutOfMemory) → Reads reply (body_rule w t blanks m) x
+  flow_read ds x h k = made reply (member_body w t blanks m) (λ ds. ds ++ member_flow w t m) ds x h k
 
 -- ---- the declaration of a member
 
@@ -105,8 +108,8 @@ module _ (reply : Replies) (w : FolderOf) (t m : ℕ) where
 -- ---- one check
 
 module _ (reply : Replies) (w : FolderOf) (t : ℕ) (blanks : List Scope) where
-  pub new_reached : (c : Check) (p : BodyProgress) → p.begun ≡ None → HasResidual reply (check_rule w t blanks c) (check_left w t blanks c p)
-  unfolding check_left
+  pub new_reached : (c : Check) (p : BodyProgress) → p.begun ≡ None → IsCheckSoFar reply w t blanks c p
+  unfolding check_begun check_left
   new_reached (declaration m) p new = here
   new_reached (overriding m) p new = here
   new_reached meeting p new = here
@@ -140,14 +143,17 @@ module _ (reply : Replies) (w : FolderOf) (t : ℕ) (blanks : List Scope) where
       body_place : body m ≡ check_in w t place
       body_place = check_is body (length ms + (length ms + suc (length ms + k))) at (body_at ms k below)
 
-      pub body_here : (x : Result (List DiagOf) (Stop (Query JavaPred))) → Reads reply (check_rule w t blanks (body m)) x → Reads reply (check_rule w t blanks (check_in w t place)) x
+      pub body_here : (x : Result (List DiagOf) (Stop (Query JavaPred))) → Reads reply (body_rule w t blanks m) x → Reads reply (check_rule w t blanks (check_in w t place)) x
+      unfolding check_rule
       body_here x h = rule_at (body m) x body_place h
 
-      pub left_here : (p : BodyProgress) → HasResidual reply (check_rule w t blanks (body m)) (check_left w t blanks (body m) p) → HasResidual reply (check_rule w t blanks (check_in w t place)) (check_left w t blanks (check_in w t place) p)
-      left_here p h = subst (λ (d : Check). HasResidual reply (check_rule w t blanks d) (check_left w t blanks d p)) body_place h
+      pub left_here : (p : BodyProgress) → HasResidual reply (member_body w t blanks m) (member_left w t blanks m p) → IsCheckSoFar reply w t blanks (check_in w t place) p
+      unfolding check_begun check_left
+      left_here p h = subst (λ (d : Check). IsCheckSoFar reply w t blanks d p) body_place h
 
-      pub left_of_body : (p : BodyProgress) → HasResidual reply (check_rule w t blanks (check_in w t place)) (check_left w t blanks (check_in w t place) p) → HasResidual reply (check_rule w t blanks (body m)) (check_left w t blanks (body m) p)
-      left_of_body p h = subst (λ (d : Check). HasResidual reply (check_rule w t blanks d) (check_left w t blanks d p)) (sym body_place) h
+      pub left_of_body : (p : BodyProgress) → IsCheckSoFar reply w t blanks (check_in w t place) p → HasResidual reply (member_body w t blanks m) (member_left w t blanks m p)
+      unfolding check_begun check_left
+      left_of_body p h = subst (λ (d : Check). IsCheckSoFar reply w t blanks d p) (sym body_place) h
 
   pub meeting_here : (place : ℕ) (x : Result (List DiagOf) (Stop (Query JavaPred))) → place ≡ length (members_of_type w.layout t) + (length (members_of_type w.layout t) + 0) → Reads reply (meeting_rule w t) x → Reads reply (check_rule w t blanks (check_in w t place)) x
   unfolding check_rule
@@ -181,17 +187,17 @@ module _ (reply : Replies) (w : FolderOf) (t : ℕ) (b : BegunChecks) (h : AreSo
   next p = with_checks w t b.blanks (b.diags ++ p) (drop (b.place + 1) all)
 
   -- the check in hand
-  pub in_hand : HasResidual reply (check_rule w t b.blanks this) (check_left w t b.blanks this b.body)
+  pub in_hand : IsCheckSoFar reply w t b.blanks this b.body
   in_hand = h.check
 
   -- with another progress in the same check
-  pub so_far_inside : (c : BegunChecks) → c.place ≡ b.place → c.blanks ≡ b.blanks → c.diags ≡ b.diags → HasResidual reply (check_rule w t b.blanks this) (check_left w t b.blanks this c.body) → AreSoFar reply w t c
+  pub so_far_inside : (c : BegunChecks) → c.place ≡ b.place → c.blanks ≡ b.blanks → c.diags ≡ b.diags → IsCheckSoFar reply w t b.blanks this c.body → AreSoFar reply w t c
   so_far_inside c place blank diags k =
       record {
         rest = subst (λ (r : Rule (List DiagOf)). HasResidual reply (whole_rule w t) r) (λ i. with_checks w t (sym blank i) (sym diags i) (drop (sym place i) all)) h.rest;
         check =
-            subst (λ (bs : List Scope). HasResidual reply (check_rule w t bs (check_in w t c.place)) (check_left w t bs (check_in w t c.place) c.body)) (sym blank)
-            (subst (λ (n : ℕ). HasResidual reply (check_rule w t b.blanks (check_in w t n)) (check_left w t b.blanks (check_in w t n) c.body)) (sym place) k);
+            subst (λ (bs : List Scope). IsCheckSoFar reply w t bs (check_in w t c.place) c.body) (sym blank)
+            (subst (λ (n : ℕ). IsCheckSoFar reply w t b.blanks (check_in w t n) c.body) (sym place) k);
       }
 
   module _ (below : b.place < length all) where
@@ -265,7 +271,7 @@ so_far_added old new q a w t (Some (Head b)) adds h =
 so_far_added old new q a w t (Some (Checks b)) adds h =
     record {
       rest = residual_added old new q a (whole_rule w t) (with_checks w t b.blanks b.diags (drop b.place (checks_of (members_of_type w.layout t)))) adds h.rest;
-      check = residual_added old new q a (check_rule w t b.blanks (check_in w t b.place)) (check_left w t b.blanks (check_in w t b.place) b.body) adds h.check;
+      check = residual_added old new q a (check_begun w t b.blanks (check_in w t b.place)) (check_left w t b.blanks (check_in w t b.place) b.body) adds h.check;
     }
 
 pub ruleset checks_steps = (plain_stops, plain_memory, in_hand, so_far_inside, whole_stops, so_far_behind, whole_ends)

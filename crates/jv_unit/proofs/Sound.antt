@@ -56,7 +56,7 @@ use Rattle.jv_unit.specs.Checks.{Check, declaration, overriding, meeting, callin
 use Rattle.jv_unit.specs.Folder.{FolderOf, IsFolderOf, java_preds}
 use Rattle.jv_unit.specs.Owns.{own_at}
 use Rattle.jv_unit.specs.Plans.{all_checks, calling_rule, check_rule, class_of, declaration_part, head_ending, meeting_rule, member_signature, overriding_rule, signature_datum, signature_stage, type_part, with_checks, java_plan, file_rows, file_edges, file_stage, file_stages, file_ending, type_row, type_stage, type_stages, type_ending, behind_header, beyond_prelude, own_file_ending, own_type_ending}
-use Rattle.jv_unit.specs.MemberBodies.{member_body, own_body, type_blanks}
+use Rattle.jv_unit.specs.MemberBodies.{member_body, member_flow, own_body, type_blanks}
 use Rattle.jv_unit.specs.Trees.{decl_at, unit_at, name_of, extends_of, implements_of}
 use Rattle.jv_unit.proofs.CheckPlaces.{IsCheckOf, checks_are}
 use Rattle.jv_unit.proofs.Numbers.{decl_numbered, members_are_owns, owns_numbered, imports_numbered, extends_numbered, implements_numbered}
@@ -270,7 +270,10 @@ module _ (w : FolderOf) (h : IsFolderOf w) where
       check_asks blanks (calling m) k =
           in_plan (calling_rule w t m)
           (ctor_rule_asks w.layout (length w.names) w.names c h.linked is_type (extends_of decl) (extends_numbered (length w.names) decl numbered) (own_at w.files m))
-      check_asks blanks (body m) k = in_plan (member_body w t blanks m) (own_asks blanks (member_scope w.layout m) (own_at w.files m) (member_listed m k) (own_numbered m (member_below w.layout t m k)))
+      check_asks blanks (body m) k =
+          and_then-asked (IsQuery (java_plan w u)) (member_body w t blanks m) (λ ds. done (ds ++ member_flow w t m))
+          (in_plan (member_body w t blanks m) (own_asks blanks (member_scope w.layout m) (own_at w.files m) (member_listed m k) (own_numbered m (member_below w.layout t m k))))
+          (λ ds. tt)
 
       checks_ask : (blanks : List Scope) (ds : List DiagOf) (xs : List Check) → ((x : Check) → Contains xs x → IsCheckOf (members_of_type w.layout t) x) → AllAsked (IsQuery (java_plan w u)) (with_checks w t blanks ds xs)
       unfolding with_checks

@@ -28,7 +28,7 @@ use Rattle.jv_member.specs.Signatures.{signature_rule}
 use Rattle.jv_tree.specs.declared.names.NameId.{NameId}
 use Rattle.jv_unit.specs.Checks.{Check, declaration, overriding, meeting, calling, body, checks_of}
 use Rattle.jv_unit.specs.Folder.{FolderOf, java_preds}
-use Rattle.jv_unit.specs.MemberBodies.{member_body, type_blanks}
+use Rattle.jv_unit.specs.MemberBodies.{member_body, member_flow, type_blanks}
 use Rattle.jv_unit.specs.Owns.{own_at}
 use Rattle.jv_unit.specs.Trees.{decl_at, unit_at, name_of, mods_of, extends_of, implements_of}
 
@@ -104,13 +104,17 @@ meeting_rule w t = inherited_rule w.layout w.names (type_scope w.layout t) (name
 abbrev pub calling_rule : FolderOf → ℕ → ℕ → Rule (List DiagOf)
 calling_rule w t m = ctor_rule w.layout w.names (type_scope w.layout t) (extends_of (decl_at w.files t)) (own_at w.files m)
 
+-- those of a body or an initializer, and of the flow through it
+abbrev pub body_rule : FolderOf → ℕ → List Scope → ℕ → Rule (List DiagOf)
+body_rule w t blanks m = and_then (member_body w t blanks m) (λ ds. done (ds ++ member_flow w t m))
+
 -- the diagnostics of a check of a type with these blank fields
 unfoldable pub check_rule : FolderOf → ℕ → List Scope → Check → Rule (List DiagOf)
 check_rule w t blanks (declaration m) = declaration_rule w t m
 check_rule w t blanks (overriding m) = overriding_rule w t m
 check_rule w t blanks meeting = meeting_rule w t
 check_rule w t blanks (calling m) = calling_rule w t m
-check_rule w t blanks (body m) = member_body w t blanks m
+check_rule w t blanks (body m) = body_rule w t blanks m
 
 -- of some checks, behind the diagnostics so far
 unfoldable pub with_checks : FolderOf → ℕ → List Scope → List DiagOf → List Check → Rule (List DiagOf)

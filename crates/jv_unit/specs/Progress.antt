@@ -29,6 +29,7 @@ use Rattle.jv_unit.specs.declared.begun_type.BegunType.{BegunType}
 use Rattle.jv_unit.specs.declared.begun_type.BegunType.TheVariants.{Head, Checks}
 use Rattle.jv_unit.specs.Checks.{Check, declaration, overriding, meeting, calling, body, checks_of}
 use Rattle.jv_unit.specs.Folder.{FolderOf}
+use Rattle.jv_unit.specs.MemberBodies.{member_body}
 use Rattle.jv_unit.specs.Owns.{own_at}
 use Rattle.jv_unit.specs.Plans.{all_checks, behind_header, check_rule, type_ending, with_checks}
 use Rattle.jv_unit.specs.Trees.{decl_at, extends_of, implements_of, unit_at}
@@ -53,7 +54,15 @@ member_left w t blanks m p =
 unfoldable pub whole_rule : FolderOf → ℕ → Rule (List DiagOf)
 whole_rule w t = type_ending w t
 
--- what is left of a check: of a body what is left of that, and else all
+-- what of a check goes on where it stopped: of a body its own rule, without the flow through it, and else all
+unfoldable pub check_begun : FolderOf → ℕ → List Scope → Check → Rule (List DiagOf)
+check_begun w t blanks (declaration m) = check_rule w t blanks (declaration m)
+check_begun w t blanks (overriding m) = check_rule w t blanks (overriding m)
+check_begun w t blanks meeting = check_rule w t blanks meeting
+check_begun w t blanks (calling m) = check_rule w t blanks (calling m)
+check_begun w t blanks (body m) = member_body w t blanks m
+
+-- what is left of that: of a body what is left of it, and else all
 unfoldable pub check_left : FolderOf → ℕ → List Scope → Check → BodyProgress → Rule (List DiagOf)
 check_left w t blanks (declaration m) p = check_rule w t blanks (declaration m)
 check_left w t blanks (overriding m) p = check_rule w t blanks (overriding m)
@@ -65,9 +74,9 @@ check_left w t blanks (body m) p = member_left w t blanks m p
 abbrev pub check_in : FolderOf → ℕ → ℕ → Check
 check_in w t place = slice_index_or (checks_of (members_of_type w.layout t)) place meeting
 
--- over these replies the rule of a check of a type goes on as what is left of it
+-- over these replies what of a check of a type goes on where it stopped does so as what is left of it
 abbrev pub IsCheckSoFar : Replies → FolderOf → ℕ → List Scope → Check → BodyProgress → Type 0
-IsCheckSoFar reply w t blanks k p = HasResidual reply (check_rule w t blanks k) (check_left w t blanks k p)
+IsCheckSoFar reply w t blanks k p = HasResidual reply (check_begun w t blanks k) (check_left w t blanks k p)
 
 -- over these replies the rule of a type goes on as that of its checks from a place on, behind the diagnostics so far, and the rule of the check there
 -- goes on as what is left of it

@@ -1,21 +1,21 @@
 //! What the unit of a type reads of the bodies and the initializers of its members.
 
-ghost use Rattle.std.specs.Prelude.{◌≡◌, ◌<◌, length, IfOk};
+ghost use Rattle.std.specs.Prelude.{◌≡◌, ◌<◌, ◌++◌, length, IfOk, MatchResult};
 ghost use Rattle.sg_reading.specs.Progress.{HasResidual};
 ghost use Rattle.sg_reading.specs.Stop.{Reads};
+ghost use Rattle.sg_reading.specs.declared.stop.Stop.TheVariants.{OutOfMemory};
 ghost use Rattle.jv_layout.specs.Scopes.{member_scope};
 ghost use Rattle.jv_member.specs.MemberDecls.{own_of};
 ghost use Rattle.jv_names.specs.Replies.{reply_to};
-ghost use Rattle.jv_unit.specs.Checks.{body};
 ghost use Rattle.jv_unit.specs.Kept.{folder_of, IsWhole};
-ghost use Rattle.jv_unit.specs.MemberBodies.{is_blank, type_blanks};
-ghost use Rattle.jv_unit.specs.Plans.{check_rule};
-ghost use Rattle.jv_unit.specs.Progress.{check_left};
+ghost use Rattle.jv_unit.specs.MemberBodies.{is_blank, member_body, member_flow, type_blanks};
+ghost use Rattle.jv_unit.specs.Progress.{member_left};
 
 use crate::folder::Folder;
 use crate::member_rules::{member_at, member_count, member_number};
 use jv_diag::DiagList;
 use jv_expr::{BodyProgress, read_ctor_body, read_field_init, read_method_body};
+use jv_flow::{check_ctor_flow, check_method_flow};
 use jv_instance::JavaPred;
 use jv_layout::Layout;
 use jv_member::MemberDecl;
@@ -73,9 +73,9 @@ pub(crate) fn read_body(
     requires within { t < length w.now.layout.types }
     requires member { m < length w.now.layout.members }
     requires scope { scope ≡ member_scope w.now.layout m }
-    requires so_far { HasResidual (reply_to o.now) (check_rule (folder_of w.now) t blanks.now (body m)) (check_left (folder_of w.now) t blanks.now (body m) progress.old) }
-    ensures reads { Reads (reply_to o.now) (check_rule (folder_of w.now) t blanks.now (body m)) result }
-    ensures so_far { HasResidual (reply_to o.now) (check_rule (folder_of w.now) t blanks.now (body m)) (check_left (folder_of w.now) t blanks.now (body m) progress.new) }
+    requires so_far { HasResidual (reply_to o.now) (member_body (folder_of w.now) t blanks.now m) (member_left (folder_of w.now) t blanks.now m progress.old) }
+    ensures reads { Reads (reply_to o.now) (member_body (folder_of w.now) t blanks.now m) result }
+    ensures so_far { HasResidual (reply_to o.now) (member_body (folder_of w.now) t blanks.now m) (member_left (folder_of w.now) t blanks.now m progress.new) }
 {
     let (l, n, ty) = (w.layout(), w.names(), w.ty(t));
     let extends = w.decl(t).extends.as_slice();
@@ -89,6 +89,41 @@ pub(crate) fn read_body(
         MemberDecl::Ctor(ctor) => {
             read_ctor_body(alloc, l, n, o, ty, extends, blanks, scope, ctor, progress)
         }
+        MemberDecl::DefaultCtor(_) => Ok(DiagList::empty(alloc)),
+    }
+}
+
+/// Diagnostics, and behind them what is said of the flow through the body of a member.
+pub(crate) fn with_flow(
+    alloc: Global,
+    w: &Folder,
+    t: u32,
+    m: u32,
+    before: DiagList,
+) -> Result<DiagList, Stop<Query<JavaPred>>>
+    requires whole { IsWhole w.now }
+    requires within { t < length w.now.layout.types }
+    requires member { m < length w.now.layout.members }
+    ensures { MatchResult result (λ ds. ds ≡ before ++ member_flow (folder_of w.now) t m) (λ stop. stop ≡ OutOfMemory) }
+{
+    let flow = own_flow(alloc, w, t, m)?;
+    let mut diags = before;
+    diags.append(flow)?;
+    Ok(diags)
+}
+
+/// What is said of the flow through the body of a member.
+fn own_flow(alloc: Global, w: &Folder, t: u32, m: u32) -> Result<DiagList, AllocError>
+    requires whole { IsWhole w.now }
+    requires within { t < length w.now.layout.types }
+    requires member { m < length w.now.layout.members }
+    ensures { IfOk result (λ ds. ds ≡ member_flow (folder_of w.now) t m) }
+{
+    let file = w.layout().file_of(w.ty(t));
+    match w.member(m) {
+        MemberDecl::Method(method) => check_method_flow(alloc, w.names(), file, method),
+        MemberDecl::Ctor(ctor) => check_ctor_flow(alloc, w.names(), file, ctor),
+        MemberDecl::Field(_, _, _) => Ok(DiagList::empty(alloc)),
         MemberDecl::DefaultCtor(_) => Ok(DiagList::empty(alloc)),
     }
 }

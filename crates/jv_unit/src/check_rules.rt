@@ -10,13 +10,14 @@ ghost use Rattle.jv_layout.specs.Scopes.{member_scope};
 ghost use Rattle.jv_names.specs.Replies.{reply_to};
 ghost use Rattle.jv_unit.specs.Checks.{checks_of};
 ghost use Rattle.jv_unit.specs.Kept.{folder_of, IsWhole};
-ghost use Rattle.jv_unit.specs.Plans.{all_checks, calling_rule, check_rule, declaration_part, declaration_rule, meeting_rule, overriding_rule};
-ghost use Rattle.jv_unit.specs.Progress.{AreSoFar, check_in, IsCheckSoFar, IsHeadSoFar, IsReadSoFar, IsSoFar, whole_rule};
+ghost use Rattle.jv_unit.specs.MemberBodies.{member_body};
+ghost use Rattle.jv_unit.specs.Plans.{all_checks, body_rule, calling_rule, check_rule, declaration_part, declaration_rule, meeting_rule, overriding_rule};
+ghost use Rattle.jv_unit.specs.Progress.{AreSoFar, check_in, IsCheckSoFar, IsHeadSoFar, IsReadSoFar, IsSoFar, member_left, whole_rule};
 
 use crate::begun_checks::BegunChecks;
 use crate::begun_head::BegunHead;
 use crate::begun_type::BegunType;
-use crate::body_rules::{blanks, read_body};
+use crate::body_rules::{blanks, read_body, with_flow};
 use crate::folder::Folder;
 use crate::head_rules::{head_diags, read_type_dependence};
 use crate::member_rules::{member_at, member_count, member_number, read_member};
@@ -159,6 +160,30 @@ fn read_calling(
     read_ctor_rule(alloc, w.layout(), w.names(), o, w.ty(t), extends, &member)
 }
 
+/// The diagnostics of the body or the initializer of a member, and of the flow through it, as far as the replies tell them, or the first
+/// query that has no reply. It goes on from where the progress says that it came to.
+fn read_whole_body(
+    alloc: Global,
+    w: &Folder,
+    o: &Oracle,
+    t: u32,
+    blanks: &[Scope],
+    scope: Scope,
+    m: u32,
+    progress: &mut BodyProgress,
+) -> Result<DiagList, Stop<Query<JavaPred>>>
+    requires whole { IsWhole w.now }
+    requires within { t < length w.now.layout.types }
+    requires member { m < length w.now.layout.members }
+    requires scope { scope ≡ member_scope w.now.layout m }
+    requires so_far { HasResidual (reply_to o.now) (member_body (folder_of w.now) t blanks.now m) (member_left (folder_of w.now) t blanks.now m progress.old) }
+    ensures reads { Reads (reply_to o.now) (body_rule (folder_of w.now) t blanks.now m) result }
+    ensures so_far { HasResidual (reply_to o.now) (member_body (folder_of w.now) t blanks.now m) (member_left (folder_of w.now) t blanks.now m progress.new) }
+{
+    let diags = read_body(alloc, w, o, t, blanks, scope, m, progress)?;
+    with_flow(alloc, w, t, m, diags)
+}
+
 /// The diagnostics of the check at a place of those of a type, as far as the replies tell them, or the first query that has no reply. That
 /// of a body goes on from where the progress says that it came to; each other one starts again.
 fn read_check(
@@ -200,7 +225,7 @@ fn read_check(
     let at = place - 3 * count - 1;
     let m = member_number(w, t, at);
     let scope = member_at(w, t, at);
-    read_body(alloc, w, o, t, blanks, scope, m, progress)
+    read_whole_body(alloc, w, o, t, blanks, scope, m, progress)
 }
 
 /// The checks of a type that are left. Where a reply is missing, those before stay done. Only the check that asks for it is repeated, which

@@ -12,6 +12,10 @@ use std::alloc::{AllocError, Global};
 use std::marker::Model;
 use std::sync::Arc;
 
+/// So many stages write the imports of a file or the header of a type. They are a group of their own, and the signatures of a
+/// type's members the other.
+const HEADER_STAGES: usize = 1;
+
 /// What the unit with a number does, over the folder that all units share, and the replies that have come to it. Units come in
 /// the order of files, and behind them in the order of types. Contracts see these (`ScriptOf`), and not how far the imports of a file
 /// or the header and the checks of a type came: where a reply is missing, it goes on with the import or the reference that asked for
@@ -91,6 +95,10 @@ impl Script for JavaScript {
 
     fn stage_count(&self) -> usize {
         stage_count(&self.folder, self.unit)
+    }
+
+    fn ends_group(&self, stage: usize) -> bool {
+        stage == HEADER_STAGES || stage == self.stage_count()
     }
 
     fn put(&mut self, query: &Query<JavaPred>, answer: Answer<JavaDatum>) -> Result<(), AllocError>

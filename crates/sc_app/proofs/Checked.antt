@@ -2,7 +2,7 @@
 use Rattle.std.specs.List.{Contains}
 use Rattle.std.proofs.Common.{◌↔◌, Result, Ok, Err, IfOk, ◌≡◌, ℕ, ◌<◌, ◌≤◌, length, map, List, [], true≢false, ◌⊎◌, inl, inr, refl, sym, ap, ◌∙◌, subst}
 use Rattle.sg_core.specs.declared.phase.Phase.TheVariants.{Running, Ended, Stuck}
-use Rattle.sg_core.specs.Core.{EndedWith, IsPhase}
+use Rattle.sg_core.specs.Core.{EndedWith, IsPhase, run}
 use Rattle.sg_query.specs.Query.{KindOf}
 use Rattle.sg_unit.specs.Run.{RunOf}
 use Rattle.jv_diag.specs.Plain.{DiagOf}
@@ -19,13 +19,19 @@ use Rattle.sc_app.specs.FolderGraph.{IsWhole as IsWhole_graph}
 use Rattle.sc_app.specs.FolderLaw.{last_graph}
 use Rattle.sc_app.specs.FolderReport.{Reports, Rules, checked as checked_rules}
 use Rattle.sc_app.specs.Results.{CameTo}
-use Rattle.sc_app.specs.FolderRun.{JavaCore, IsFolderRun, ruled}
+use Rattle.sc_app.specs.FolderRun.{JavaCore, IsFolderRun, ruled, same_datum}
+use Rattle.sc_app.specs.Found.{IsFoundBy}
+use Rattle.jv_instance.specs.Data.{is_wanted}
 use Rattle.sc_app.specs.Outcome.{HaveFault, RanOn}
 
 -- a run that is over does not go on
 pub not_running : {D P : Type 0} (r : RunOf D P) → IsPhase r Ended ⊎ IsPhase r Stuck → IsPhase r Running → ⊥
 not_running r (inl ended) (u, runs) = ended u runs.0
 not_running r (inr stuck) (u, runs) = true≢false (sym (stuck.1 u runs.0) ∙ runs.1)
+
+-- a run that has ended is not stuck
+pub not_both : {D P : Type 0} (r : RunOf D P) → IsPhase r Ended → IsPhase r Stuck → ⊥
+not_both r ended stuck = ended stuck.0.0 stuck.0.1
 
 -- what the rules see of a folder that was made of trees
 module _ (w : Folder) (l : LayoutOf) (names : List (List ℕ)) (us : List UnitTree) (kinds : List KindOf) (layout : l ≡ layout_of names us)
@@ -61,6 +67,15 @@ module _ (w : FolderOf) (c : JavaCore) (whole : IsWhole_graph (ruled w) (last_gr
 
   pub ended_report : {E : Type 0} (r : Result (List DiagOf) E) → IfOk r (CameTo c) → IfOk r (Reports (ruled w))
   ended_report r h = if_ok (CameTo c) (Reports (ruled w)) r reported h
+
+  found : IsPhase (run is_wanted same_datum c) Ended → (ds : List DiagOf) → CameTo c ds → IsFoundBy w c ds
+  found ended ds came = record {
+    ended = λ e. (last_graph c, whole.0, λ d. ((λ k. (whole.1 d).0 ((came d).0 k)), (λ k. (came d).1 ((whole.1 d).1 k))));
+    stuck = λ s. absurd (not_both (run is_wanted same_datum c) ended s);
+  }
+
+  pub ended_found : {E : Type 0} → IsPhase (run is_wanted same_datum c) Ended → (r : Result (List DiagOf) E) → IfOk r (CameTo c) → IfOk r (IsFoundBy w c)
+  ended_found ended r h = if_ok (CameTo c) (IsFoundBy w c) r (found ended) h
 
 -- ---- files with faults
 

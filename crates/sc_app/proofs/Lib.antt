@@ -36,4 +36,3 @@ mod Sending
 mod Sourcing
 mod StuckRuns
 mod Telling
-mod TreeSending

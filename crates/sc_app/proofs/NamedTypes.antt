@@ -4,6 +4,8 @@ use Rattle.std.specs.List.{Contains}
 use Rattle.sg_base.specs.declared.scope.Scope.{Scope}
 use Rattle.sg_base.specs.Graph.{GraphOf}
 use Rattle.sg_base.specs.State.{IsOpen, State}
+use Rattle.sg_core.specs.declared.phase.Phase.TheVariants.{Stuck}
+use Rattle.sg_core.specs.Core.{IsPhase, run}
 use Rattle.sg_headers.proofs.Headers.{open_type}
 use Rattle.sg_query.specs.declared.query.Query.{Query}
 use Rattle.sg_query.specs.State.{RowBlocks}
@@ -11,17 +13,20 @@ use Rattle.sg_strata.specs.Program.{IsNeeded, Program, state_with}
 use Rattle.jv_diag.specs.Plain.{DiagOf}
 use Rattle.jv_instance.specs.declared.datum.JavaDatum.{JavaDatum}
 use Rattle.jv_instance.specs.declared.pred.JavaPred.{JavaPred}
+use Rattle.jv_instance.specs.Data.{is_wanted}
 use Rattle.jv_layout.specs.Scopes.{type_scope}
 use Rattle.jv_layout.proofs.SoundLists.{from_image}
 use Rattle.jv_names.specs.Written.{start_of}
-use Rattle.jv_unit.specs.Folder.{FolderOf}
+use Rattle.jv_unit.specs.Folder.{FolderOf, IsFolderOf}
 use Rattle.jv_unit.specs.Trees.{extends_of, implements_of}
 use Rattle.sc_app.specs.CircularLines.{AreLinesBelow}
 use Rattle.sc_app.specs.FolderGraph.{decl_of, headers_of}
-use Rattle.sc_app.specs.FolderLaw.{FolderRunsLeaveGreatest, LeavesGreatest, closed_in}
+use Rattle.sc_app.specs.FolderLaw.{FolderRunsAreStuckByHeaders, FolderRunsLeaveGreatest, LeavesGreatest, closed_in}
 use Rattle.sc_app.specs.FolderReport.{SaysCircular}
-use Rattle.sc_app.specs.FolderRun.{JavaCore, ruled}
+use Rattle.sc_app.specs.FolderRun.{JavaCore, IsFolderRun, ruled, same_datum}
+use Rattle.sc_app.specs.Found.{IsFoundBy}
 use Rattle.sc_app.specs.NamedTypes.{CircularTypesNameCircularTypes, NamesCircular, SaysWaiting}
+use Rattle.sc_app.proofs.Checked.{not_both}
 
 module _ (w : FolderOf) (c : JavaCore) (g : GraphOf JavaDatum) (row : Scope → List Scope) (left : LeavesGreatest w c g row) where
   abbrev p : Program (Query JavaPred) JavaDatum
@@ -64,3 +69,14 @@ pub circular_types_name_circular_types : FolderRunsLeaveGreatest → CircularTyp
 circular_types_name_circular_types greatest w c ds folder ran lines d h =
     let left = greatest w c folder ran in
     names_circular w c left.0 left.1 left.2 ds lines d h
+
+-- where a run is stuck, the lines of all its types are what is found
+pub lines_found : CircularTypesNameCircularTypes → FolderRunsAreStuckByHeaders → (w : FolderOf) (c : JavaCore) (ds : List DiagOf) → IsFolderOf w → IsFolderRun w c → AreLinesBelow w c (length w.layout.types) ds
+    → IsPhase (run is_wanted same_datum c) Stuck → IsFoundBy w c ds
+lines_found names by_headers w c ds folder ran lines stuck =
+    let (s, there, waits) = (by_headers w c folder ran).0 stuck in
+    let at = from_image (type_scope w.layout) (length w.layout.types) s there in
+    let own = lines.all at.0 at.1 (subst (λ (x : Scope). closed_in c x ≡ false) at.2 waits) in record {
+      ended = λ e. absurd (not_both (run is_wanted same_datum c) e stuck);
+      stuck = λ k. ((own.0, own.1), names w c ds folder ran lines);
+    }

@@ -24,7 +24,7 @@ use Rattle.jv_unit.specs.contracts.begun_head.BegunHead as head
 use Rattle.jv_unit.specs.contracts.begun_type.BegunType as begun
 use Rattle.jv_unit.specs.contracts.folder.Folder as folder
 use Rattle.jv_unit.specs.contracts.java_script.JavaScript as script
-use Rattle.sc_app.proofs.TreeSending.{tree_send, tree_sync}
+use Rattle.sc_sources.proofs.TreeSending.{tree_send, tree_sync}
 
 names_send : IsSend names.the_row
 names_send = search (sendable, heap.crosses, maps.crosses, sets.crosses) depth 60 fits 100000

@@ -8,6 +8,7 @@ pub mod FolderGraph
 pub mod FolderLaw
 pub mod FolderReport
 pub mod FolderRun
+pub mod Found
 pub mod Followers
 pub mod Gathered
 pub mod Heard

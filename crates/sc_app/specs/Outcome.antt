@@ -16,6 +16,7 @@ use Rattle.sc_sources.specs.Sources.{Outcome as SourceOutcome, ReadsFolder, faul
 use Rattle.sc_app.specs.declared.outcome.Outcome.{Outcome}
 use Rattle.sc_app.specs.Diagnoses.{Diagnoses, HaveTrees, types_declared}
 use Rattle.sc_app.specs.FolderRun.{JavaCore, IsFolderRun}
+use Rattle.sc_app.specs.Found.{IsFoundBy}
 
 -- some file has a fault
 abbrev pub HaveFault : List FileOf → Type 0
@@ -49,8 +50,14 @@ IsRunOn fs (Some w) (Some c) = RanOn fs (arc_value w) c
 IsRunOn fs None (Some c) = ⊥
 IsRunOn fs (Some w) None = ⊥
 
+-- where checkers ran, diagnostics are what is found by how their run is over
+abbrev pub IsFoundOn : List DiagOf → Option (Arc Folder Global) → Option JavaCore → Type 0
+IsFoundOn ds None c = Unit {0}
+IsFoundOn ds (Some w) None = Unit {0}
+IsFoundOn ds (Some w) (Some c) = IsFoundBy (folder_of (arc_value w)) c ds
+
 -- the diagnostics are those of the report, sorted, each once, beside how many files there are and how many types they declare; the files are handed back,
--- with what ran
+-- with what ran, and where it is over shows whether the report is that of the rules or of headers that wait
 pub record IsOutcomeOf (fs : List FileOf) (o : Outcome) : Type 0 where
   pub sources : sources_of o.sources.items ≡ fs
   pub files : o.files ≡ length fs
@@ -58,3 +65,4 @@ pub record IsOutcomeOf (fs : List FileOf) (o : Outcome) : Type 0 where
   pub diagnoses : Diagnoses fs found o.types
   pub sorted : AreSorted found (map diag_of o.diags.items)
   pub ran : IsRunOn fs o.folder o.core
+  pub found_by : IsFoundOn found o.folder o.core

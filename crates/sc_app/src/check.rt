@@ -95,6 +95,7 @@ fn sources_for<T: SourceTree>(
     ensures gathered { IfOk result (λ g. IfSome (T.files tree.old) (λ fs. IsGathered (files_for command fs) g)) }
     ensures within { IfOk result StaysWithin }
     ensures failed { result ≡ Err TreeFault.Failed → HasRisen (T.faults tree.old) (T.faults tree.new) }
+    ensures made { MakesProject command → result ≡ Err TreeFault.Failed → ⊥ }
 {
     match command {
         Command::Check | Command::Answers | Command::Graph => gather(alloc, tree),
@@ -119,6 +120,7 @@ pub(crate) fn check<R: Threads + Wait + Sync, T: SourceTree, G: Gate>(
     ensures status { IfOk result (λ r. IsReportStatus r.status) }
     ensures outcome { IfOk result (λ r. IsBesideIn asked.command (T.files tree.old) r.outcome r.bytes.items r.status) }
     ensures failed { result ≡ Err TreeFault.Failed → HasRisen (T.faults tree.old) (T.faults tree.new) }
+    ensures made { MakesProject asked.command → result ≡ Err TreeFault.Failed → ⊥ }
 {
     let gathered = sources_for(alloc, asked.command, tree)?;
     match gathered {

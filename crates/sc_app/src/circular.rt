@@ -15,8 +15,12 @@ ghost use Rattle.sc_app.specs.CircularLines.{AreLinesBelow, IsLineOf};
 ghost use Rattle.sc_app.specs.FolderLaw.{closed_in};
 ghost use Rattle.sc_app.specs.FolderReport.{Reports};
 ghost use Rattle.sc_app.specs.FolderRun.{IsFolderRun, ruled, same_datum};
+ghost use Rattle.sc_app.specs.Found.{IsFoundBy};
 
-use crate::folder_laws::{folder_runs_leave_greatest, folder_runs_report, folders_have_one_report};
+use crate::folder_laws::{
+    circular_types_name_circular_types, folder_runs_leave_greatest, folder_runs_report,
+    folders_have_one_report,
+};
 use crate::heard::replies_of;
 use jv_diag::{Diag, DiagList};
 use jv_header::circular_line;
@@ -122,10 +126,12 @@ pub(crate) fn circular_lines(
     requires whole { IsWhole folder.now }
     requires run { IsFolderRun (folder_of folder.now) core.now }
     requires stuck { IsPhase (run is_wanted same_datum core.now) Stuck }
-    ensures { IfOk result (λ ds. Reports (ruled (folder_of folder.now)) ds) }
+    ensures reports { IfOk result (λ ds. Reports (ruled (folder_of folder.now)) ds) }
+    ensures found { IfOk result (IsFoundBy (folder_of folder.now) core.now) }
 {
     folder_runs_leave_greatest();
     folders_have_one_report();
+    circular_types_name_circular_types();
     let mut lines = DiagList::empty(alloc);
     for t in 0..folder.type_count() {
         add_line(alloc, &mut lines, folder, core, t)?;

@@ -71,27 +71,8 @@ fn begin(alloc: Global, folder: &Arc<Folder, Global>, kinds: KindTable) -> Resul
     Ok(Begun { core, units })
 }
 
-/// How many checkers the prelude has: of its two files, and of its two types.
-const OF_PRELUDE: usize = 4;
-
-/// How many of so many workers have something to do, at least one: no more than one for each two checkers besides those of the prelude,
-/// which have next to nothing to do. To start a thread takes longer than a small checker does.
-fn busy_workers(workers: u32, checkers: usize) -> u32
-    ensures { 1 ≤ result }
-{
-    let own = checkers.saturating_sub(OF_PRELUDE) / 2;
-    if own == 0 || workers == 0 {
-        return 1;
-    }
-    if own < workers as usize {
-        own as u32
-    } else {
-        workers
-    }
-}
-
-/// Runs the checkers of a folder in so many threads, at least one, until none can go on. The core that is answered has ended, or each
-/// of its live units waits.
+/// Runs the checkers of a folder in so many threads, or one for each checker where there are fewer, until none can go on. The core that
+/// is answered has ended, or each of its live units waits.
 pub(crate) fn run_folder<R: Threads + Wait + Sync, G: Gate>(
     rt: &R,
     alloc: Global,
@@ -102,10 +83,10 @@ pub(crate) fn run_folder<R: Threads + Wait + Sync, G: Gate>(
 ) -> Result<Core<Java, DiagList>, AllocError>
     requires whole { IsWhole (arc_value folder.now) }
     requires kinds { kinds ≡ (folder_of (arc_value folder.now)).kinds }
+    requires workers { 1 ≤ workers }
     ensures { IfOk result (IsFolderRun (folder_of (arc_value folder.now))) }
 {
     let begun = begin(alloc, folder, kinds)?;
-    let workers = busy_workers(workers, begun.units.len());
     run_followers::<JavaScript, G, R>(rt, alloc, begun.core, begun.units, workers, gate)
 }
 

@@ -16,11 +16,12 @@ use jv_layout::{Layout, LayoutFault, layout};
 use jv_tree::{Names, Unit};
 use jv_unit::Folder;
 use sc_io::SourceFile;
-use sc_sources::{Sources, read_sources};
+use sc_sources::{Sources, read_in_threads, read_sources};
 use sg_base::Scope;
 use sg_query::KindTable;
 use std::alloc::Global;
 use std::sync::Arc;
+use std::thread::Threads;
 
 /// What sources come to before their checkers run.
 #[derive(Drop)]
@@ -35,13 +36,33 @@ pub(crate) enum Prepared {
     },
 }
 
-/// Reads sources, and lays them out where none has a fault.
+/// Reads sources on the caller's thread, and lays them out where none has a fault.
 pub(crate) fn prepare(alloc: Global, files: &[SourceFile]) -> Result<Prepared, ProjectFault>
     requires within { AreWithinLimits (sources_of files.now) }
     ensures prepared { IfOk result (IsPreparedOf (sources_of files.now)) }
     ensures fault { IfErr result (λ e. e ≡ ProjectFault.TooManyTypes → DeclareTooMany (sources_of files.now)) }
 {
     let Ok(sources) = read_sources(alloc, files) else {
+        return Err(ProjectFault::OutOfMemory);
+    };
+    match sources {
+        Sources::Faults(faults) => Ok(Prepared::Faults(faults)),
+        Sources::Trees { names, units } => lay_out(alloc, files, names, units),
+    }
+}
+
+/// Reads sources by at most so many threads, and lays them out where none has a fault.
+pub(crate) fn prepare_in_threads<R: Threads + Sync>(
+    rt: &R,
+    alloc: Global,
+    files: &[SourceFile],
+    workers: u32,
+) -> Result<Prepared, ProjectFault>
+    requires within { AreWithinLimits (sources_of files.now) }
+    ensures prepared { IfOk result (IsPreparedOf (sources_of files.now)) }
+    ensures fault { IfErr result (λ e. e ≡ ProjectFault.TooManyTypes → DeclareTooMany (sources_of files.now)) }
+{
+    let Ok(sources) = read_in_threads(rt, alloc, files, workers) else {
         return Err(ProjectFault::OutOfMemory);
     };
     match sources {

@@ -9,12 +9,13 @@ ghost use Rattle.sc_sources.specs.declared.sources.Sources.TheVariants.{Faults};
 ghost use Rattle.sc_app.specs.Diagnoses.{DeclareTooMany};
 ghost use Rattle.sc_app.specs.FolderReport.{Reports};
 ghost use Rattle.sc_app.specs.FolderRun.{IsFolderRun, IsServedIn, ruled};
+ghost use Rattle.sc_app.specs.Found.{IsFoundBy};
 ghost use Rattle.sc_app.specs.Outcome.{IsOutcomeOf, IsReady};
 
 use crate::circular::circular_lines;
 use crate::folder_run::{run_folder, run_in_order};
 use crate::outcome::Outcome;
-use crate::prepared::{Prepared, prepare};
+use crate::prepared::{Prepared, prepare, prepare_in_threads};
 use crate::results::ended_diags;
 use jv_diag::DiagList;
 use jv_instance::Java;
@@ -52,13 +53,13 @@ pub fn check_project<R: Threads + Wait + Sync>(
 }
 
 /// Checks the sources of a folder: at most 4,096 files of at most 1 MiB each and 4 MiB together, in rising order of their paths. So
-/// many workers run its checkers, or one for each two checkers beside the prelude's where those are fewer; the gate is told of each step of a checker. The
-/// outcome is the report of the rules, whatever the number of workers and the order of their steps. A worker's thread that cannot be
-/// started is none: the caller's does its work. It may wait for the other workers. The caller's thread needs a stack of
-/// `jv_parse::PARSE_STACK` bytes for the deepest sources.
+/// many workers run its checkers, or one for each checker where those are fewer: one for each file and each type, the prelude's two and
+/// two among them. The gate is told of each step of a checker. The outcome is the report of the rules, whatever the number of workers and
+/// the order of their steps. A worker's thread that cannot be started is none: the caller's does its work. It may wait for the other
+/// workers. The caller's thread and those that it starts need a stack of `jv_parse::PARSE_STACK` bytes for the deepest sources.
 ///
-/// Reading takes time linear in the sources, as is expected of a hash; what the checkers take is that of their queries. Where a reply is
-/// missing a checker goes on with what asked for it.
+/// Reading takes time linear in the sources, as is expected of a hash, and the workers share it; what the checkers take is that of their
+/// queries. Where a reply is missing a checker goes on with what asked for it.
 pub fn check_gated<R: Threads + Wait + Sync, G: Gate>(
     rt: &R,
     alloc: Global,
@@ -71,7 +72,7 @@ pub fn check_gated<R: Threads + Wait + Sync, G: Gate>(
     ensures outcome { IfOk result (IsOutcomeOf (sources_of files.items)) }
     ensures fault { IfErr result (λ e. e ≡ ProjectFault.TooManyTypes → DeclareTooMany (sources_of files.items)) }
 {
-    match prepare(alloc, files.as_slice())? {
+    match prepare_in_threads(rt, alloc, files.as_slice(), workers)? {
         Prepared::Faults(faults) => Ok(faulty(files, faults)),
         Prepared::Ready {
             folder,
@@ -168,7 +169,8 @@ fn run_diags(
 ) -> Result<DiagList, AllocError>
     requires whole { IsWhole folder.now }
     requires run { IsFolderRun (folder_of folder.now) core.now }
-    ensures { IfOk result (λ ds. Reports (ruled (folder_of folder.now)) ds) }
+    ensures reports { IfOk result (λ ds. Reports (ruled (folder_of folder.now)) ds) }
+    ensures found { IfOk result (IsFoundBy (folder_of folder.now) core.now) }
 {
     match core.phase() {
         Phase::Ended => ended_diags(alloc, folder, core),

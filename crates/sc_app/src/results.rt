@@ -8,6 +8,7 @@ ghost use Rattle.jv_diag.specs.Plain.{diag_of};
 ghost use Rattle.jv_unit.specs.Kept.{folder_of, IsWhole};
 ghost use Rattle.sc_app.specs.FolderReport.{Reports};
 ghost use Rattle.sc_app.specs.FolderRun.{IsFolderRun, ruled, same_datum};
+ghost use Rattle.sc_app.specs.Found.{IsFoundBy};
 ghost use Rattle.sc_app.specs.Results.{CameTo, CameToBelow};
 
 use crate::folder_laws::folder_runs_report;
@@ -77,7 +78,8 @@ pub(crate) fn ended_diags(
     requires whole { IsWhole folder.now }
     requires run { IsFolderRun (folder_of folder.now) core.now }
     requires ended { IsPhase (run is_wanted same_datum core.now) Ended }
-    ensures { IfOk result (λ ds. Reports (ruled (folder_of folder.now)) ds) }
+    ensures reports { IfOk result (λ ds. Reports (ruled (folder_of folder.now)) ds) }
+    ensures found { IfOk result (IsFoundBy (folder_of folder.now) core.now) }
 {
     let _ = folder;
     folder_runs_report();

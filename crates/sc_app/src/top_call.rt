@@ -37,10 +37,11 @@ pub fn run<R: Threads + Wait + Sync, T: SourceTree, S: Sink>(
     ensures no_command { (IsCommand (map (λ w. w.now) words.now) → ⊥) → IsRefusal result }
 
     // A fault comes only where the count of its object rose in this call; nothing is written where the tree failed. For `gen` no call of
-    // the tree is made that may fail.
+    // the tree is made that may fail, and no read fault comes, also where the tree's count stands at its last value.
     ensures read_fault { result ≡ Status.ReadFault → HasRisen (T.faults tree.old) (T.faults tree.new)
         × (S.written out.new ≡ S.written out.old) }
     ensures unread { (n : ℕ) (workers : Option ℕ) → Asks (map (λ w. w.now) words.now) (CommandOf.Gen n) workers → T.faults tree.new ≡ T.faults tree.old }
+    ensures no_read_fault { (n : ℕ) (workers : Option ℕ) → Asks (map (λ w. w.now) words.now) (CommandOf.Gen n) workers → result ≡ Status.ReadFault → ⊥ }
     ensures write_fault { result ≡ Status.WriteFault → HasRisen (S.faults out.old) (S.faults out.new) }
 
     // A limit is told only where the sources of the command pass it, and its whole line is written.
@@ -68,10 +69,10 @@ pub fn run<R: Threads + Wait + Sync, T: SourceTree, S: Sink>(
 /// number of files is looked at first, then each file in the order of the paths, and the number of types last, and only where no
 /// file has a fault. The bytes are put in one piece.
 ///
-/// So many threads check the folder as the words ask for; where they do not say, as many as there are files, at least 1 and at most
-/// 16, and no more than there are processors. Neither the status nor what `check`, `graph` and `gen` write depends on them. The gate is told of each step of a checker. Up to
-/// logarithms it takes time linear in the paths and the sources, beside what the queries of their checkers take and what is listed,
-/// and may wait for its threads.
+/// So many threads check the folder as the words ask for, or one for each checker where those are fewer; where the words do not say, as
+/// many as there are files, at least 1 and at most 16, and no more than there are processors. Neither the status nor what `check`,
+/// `graph` and `gen` write depends on them. The gate is told of each step of a checker. Up to logarithms it takes time linear in the
+/// paths and the sources, beside what the queries of their checkers take and what is listed, and may wait for its threads.
 pub fn run_gated<R: Threads + Wait + Sync, T: SourceTree, S: Sink, G: Gate>(
     rt: &R,
     alloc: Global,
@@ -89,10 +90,11 @@ pub fn run_gated<R: Threads + Wait + Sync, T: SourceTree, S: Sink, G: Gate>(
     ensures no_command { (IsCommand (map (λ w. w.now) words.now) → ⊥) → IsRefusal result.status }
 
     // A fault comes only where the count of its object rose in this call; nothing is written where the tree failed. For `gen` no call of
-    // the tree is made that may fail.
+    // the tree is made that may fail, and no read fault comes, also where the tree's count stands at its last value.
     ensures read_fault { result.status ≡ Status.ReadFault → HasRisen (T.faults tree.old) (T.faults tree.new)
         × (S.written out.new ≡ S.written out.old) }
     ensures unread { (n : ℕ) (workers : Option ℕ) → Asks (map (λ w. w.now) words.now) (CommandOf.Gen n) workers → T.faults tree.new ≡ T.faults tree.old }
+    ensures no_read_fault { (n : ℕ) (workers : Option ℕ) → Asks (map (λ w. w.now) words.now) (CommandOf.Gen n) workers → result.status ≡ Status.ReadFault → ⊥ }
     ensures write_fault { result.status ≡ Status.WriteFault → HasRisen (S.faults out.old) (S.faults out.new) }
 
     // A limit is told only where the sources of the command pass it, and its whole line is written.

@@ -12,6 +12,8 @@ mod listing_tests;
 #[cfg(test)]
 mod order_tests;
 #[cfg(test)]
+mod project_tests;
+#[cfg(test)]
 mod tables;
 #[cfg(test)]
 mod tests;

@@ -51,7 +51,7 @@ fn add_source(
 }
 
 /// The sources of a folder.
-fn sources(alloc: Global, files: Files) -> Result<Vec<SourceFile>, Fail>
+pub(crate) fn sources(alloc: Global, files: Files) -> Result<Vec<SourceFile>, Fail>
     ensures { IfOk result (λ v. AreSmall (sources_of v.items)) }
 {
     let mut all = Vec::new(alloc);

@@ -1,6 +1,7 @@
 //! Whole runs over folders in memory: what is written, and how they end.
 
-ghost use Rattle.std.specs.Prelude.{IfOk};
+ghost use Rattle.std.specs.Prelude.{◌≡◌, ◌≤◌, Err, IfOk};
+ghost use Rattle.sc_io.specs.Faults.{HasRisen};
 ghost use Rattle.sc_io.specs.FileList.{files_of};
 ghost use Rattle.sc_io.specs.SourceTree.{HasDistinctPaths};
 
@@ -8,7 +9,7 @@ use crate::folders::{File, Files, add_file, files_and_report, folder};
 use crate::tables::{FOUR_FILES, NO_SOURCE, TABLES};
 use crate::thread_tests::is_written;
 use sc_app::{Status, Which, run};
-use sc_io::{CutSink, MemSink, MemTree, PlainSink, PlainTree};
+use sc_io::{CutSink, MemSink, MemTree, PlainSink, PlainTree, Sink, SinkFault};
 use std::alloc::Global;
 use std::fmt::Write;
 use std::sync::Wait;
@@ -208,12 +209,12 @@ fn refuses_words_that_are_no_command(rt: HostRuntime) -> Result<(), Fail> {
 fn ends_failing_at<R: Threads + Wait + Sync>(
     rt: &R,
     alloc: Global,
+    files: Files,
     words: &[&str],
     call: u64,
     text: &str,
     end: Status,
 ) -> Result<bool, Fail> {
-    let (files, _) = files_and_report(FOUR_FILES)?;
     let mut tree = MemTree::new(folder(alloc, files)?, vec![in alloc; call]?);
     let mut out = PlainSink::new(alloc);
     let status = run(rt, alloc, words, &mut tree, &mut out);
@@ -223,14 +224,17 @@ fn ends_failing_at<R: Threads + Wait + Sync>(
 #[test]
 fn each_call_of_the_tree_may_fail(rt: HostRuntime) -> Result<(), Fail> {
     let alloc = rt.alloc();
+    let (files, _) = files_and_report(FOUR_FILES)?;
     // The paths are listed, and each file is read.
     for call in 0..5u64 {
         let words = ["check", "x"];
         assert!(rt;
-            ends_failing_at(&rt, alloc, &words, call, "", Status::ReadFault)?,
+            ends_failing_at(&rt, alloc, files, &words, call, "", Status::ReadFault)?,
             "{call}"
         );
     }
+    let words = ["check", "x"];
+    assert!(rt; ends_failing_at(&rt, alloc, TWO_FILES, &words, 2, "", Status::ReadFault)?);
     // No other call is made, and none at all for a project.
     let rows: [(&[&str], u64, &str); 3] = [
         (&["check", "x"], 5, "ok files 4 types 5\n"),
@@ -239,7 +243,7 @@ fn each_call_of_the_tree_may_fail(rt: HostRuntime) -> Result<(), Fail> {
     ];
     for (words, call, report) in rows {
         assert!(rt;
-            ends_failing_at(&rt, alloc, words, call, report, Status::Clean)?,
+            ends_failing_at(&rt, alloc, files, words, call, report, Status::Clean)?,
             "{report}"
         );
     }
@@ -268,6 +272,62 @@ fn no_put_follows_one_that_failed(rt: HostRuntime) -> Result<(), Fail> {
     assert!(rt; is_cut(&rt, alloc, (0, 7), "A.java:", Status::WriteFault)?);
     // The first put is the only one, so a cut of the second changes nothing.
     assert!(rt; is_cut(&rt, alloc, (1, 0), report, Status::Found)?);
+    Ok(())
+}
+
+/// A sink that takes nothing, and counts the puts, all of which fail.
+#[derive(Drop)]
+struct Closed {
+    puts: u64,
+}
+
+impl Sink for Closed {
+    ghost use Rattle.std.specs.Prelude.{None};
+
+    ghost written = { λ _. None };
+
+    ghost faults = { λ s. s.puts };
+
+    fn put(&mut self, piece: &[u8]) -> Result<(), SinkFault>
+        ensures count { self.old.puts ≤ self.new.puts }
+        ensures fails { result ≡ Err SinkFault.Failed }
+        ensures failed { result ≡ Err SinkFault.Failed → HasRisen self.old.puts self.new.puts }
+    {
+        let _refused = piece;
+        self.puts = self.puts.saturating_add(1);
+        Err(SinkFault::Failed)
+    }
+}
+
+/// How many puts a run makes whose sink takes nothing, where it ends with that fault.
+fn puts_onto_closed<R: Threads + Wait + Sync>(
+    rt: &R,
+    alloc: Global,
+    words: &[&str],
+) -> Result<Option<u64>, Fail> {
+    let mut tree = PlainTree::new(folder(alloc, TWO_FILES)?);
+    let mut out = Closed { puts: 0 };
+    let status = run(rt, alloc, words, &mut tree, &mut out);
+    if status == Status::WriteFault {
+        Ok(Some(out.puts))
+    } else {
+        Ok(None)
+    }
+}
+
+#[test]
+fn no_empty_piece_follows_a_put_that_failed(rt: HostRuntime) -> Result<(), Fail> {
+    let alloc = rt.alloc();
+    let rows: [&[&str]; 5] = [
+        &["print", "x"],
+        &["check", "x"],
+        &["graph", "x"],
+        &["answers", "x"],
+        &["gen", "2"],
+    ];
+    for words in rows {
+        assert_eq!(rt; puts_onto_closed(&rt, alloc, words)?, Some(1));
+    }
     Ok(())
 }
 

@@ -3,7 +3,7 @@
 use crate::folders::{Files, files_and_report, folder};
 use crate::tables::{CIRCLES, FAULTS, FIELDS, FOUR_FILES, IMPORTS, METHODS, NO_SOURCE, SMALL};
 use crate::tests::status_of;
-use sc_app::{Status, run, run_gated};
+use sc_app::{Outcome, Status, run, run_gated};
 use sc_io::{PlainSink, PlainTree};
 use sg_unit::Gate;
 use std::alloc::Global;
@@ -22,7 +22,7 @@ const WORKERS: [&str; 5] = [
 ];
 
 /// How many times each folder is checked by each number of workers.
-const TIMES: u32 = 100;
+const TIMES: u32 = 40;
 
 /// What these words write of a folder, and how the run ends.
 fn written<R: Threads + Wait + Sync>(
@@ -92,8 +92,12 @@ const PATIENCE: u64 = 1_000_000_000;
 struct Meeting {
     first: AtomicU64,
     second: AtomicU64,
-    /// How many steps went on alone.
-    alone: AtomicU64,
+    /// How many of the two were met by the other in time.
+    met: AtomicU64,
+    /// How many steps were told of before they were made.
+    before: AtomicU64,
+    /// How many steps were answered.
+    answered: AtomicU64,
 }
 
 /// Whether the other unit came in time.
@@ -108,6 +112,7 @@ fn comes(other: &AtomicU64) -> bool {
 
 impl Gate for Meeting {
     fn before(&self, unit: u32, step: u64) {
+        self.before.fetch_add(1, Ordering::SeqCst);
         if step != 1 || unit > 1 {
             return;
         }
@@ -117,28 +122,43 @@ impl Gate for Meeting {
             (&self.second, &self.first)
         };
         own.store(1, Ordering::SeqCst);
-        if !comes(other) {
-            self.alone.fetch_add(1, Ordering::SeqCst);
+        if comes(other) {
+            self.met.fetch_add(1, Ordering::SeqCst);
         }
     }
 
-    fn answered(&self, _unit: u32, _step: u64) {}
+    fn answered(&self, _unit: u32, _step: u64) {
+        self.answered.fetch_add(1, Ordering::SeqCst);
+    }
 }
 
-/// Whether two workers that go through this gate write the report of a folder, and hand their outcome back.
-fn is_reported_through<R: Threads + Wait + Sync>(
+/// How many entries the log of an outcome's core has, where one was handed back.
+fn entries_of(outcome: &Option<Outcome>) -> Option<u64> {
+    let Some(outcome) = outcome else {
+        return None;
+    };
+    match &outcome.core {
+        Some(core) => Some(core.log().len() as u64),
+        None => None,
+    }
+}
+
+/// How many entries the log has of a run by two workers that go through this gate, where it writes the report of a folder.
+fn entries_through<R: Threads + Wait + Sync>(
     rt: &R,
     alloc: Global,
     row: &str,
     meeting: &Meeting,
-) -> Result<bool, Fail> {
+) -> Result<Option<u64>, Fail> {
     let (files, report) = files_and_report(row)?;
     let mut tree = PlainTree::new(folder(alloc, files)?);
     let mut out = PlainSink::new(alloc);
     let words = ["check", "--workers=2", "x"];
     let ran = run_gated(rt, alloc, &words, &mut tree, &mut out, meeting);
-    let is_written = out.taken() == report.as_bytes() && ran.status == status_of(report);
-    Ok(is_written && ran.outcome.is_some())
+    if out.taken() != report.as_bytes() || ran.status != status_of(report) {
+        return Ok(None);
+    }
+    Ok(entries_of(&ran.outcome))
 }
 
 #[test]
@@ -146,9 +166,14 @@ fn two_workers_check_at_once(rt: HostRuntime) -> Result<(), Fail> {
     let meeting = Meeting {
         first: AtomicU64::new(0),
         second: AtomicU64::new(0),
-        alone: AtomicU64::new(0),
+        met: AtomicU64::new(0),
+        before: AtomicU64::new(0),
+        answered: AtomicU64::new(0),
     };
-    assert!(rt; is_reported_through(&rt, rt.alloc(), FOUR_FILES, &meeting)?);
-    assert_eq!(rt; meeting.alone.load(Ordering::SeqCst), 0);
+    let entries = entries_through(&rt, rt.alloc(), FOUR_FILES, &meeting)?;
+    assert_eq!(rt; meeting.met.load(Ordering::SeqCst), 2);
+    // Each step is one entry of the log.
+    assert_eq!(rt; entries, Some(meeting.before.load(Ordering::SeqCst)));
+    assert_eq!(rt; entries, Some(meeting.answered.load(Ordering::SeqCst)));
     Ok(())
 }

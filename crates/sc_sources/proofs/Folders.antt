@@ -28,13 +28,13 @@ next_sources files i d l =
     ap (λ (fs : List FileOf). object_source ∷ string_source ∷ map (λ f. f.bytes) fs) (next_source files i d l)
     ∙ ap (λ (bs : List (List ℕ)). object_source ∷ string_source ∷ bs) (map-append (λ f. f.bytes) (sources_of (take i files)) (source_of (get_or files i d) ∷ []))
 
-sizes_cut : (files : List SourceFile) (i : ℕ) → sum_by size (sources_of files) ≡ sum_by size (sources_of (take i files)) + sum_by size (sources_of (drop i files))
+pub sizes_cut : (files : List SourceFile) (i : ℕ) → sum_by size (sources_of files) ≡ sum_by size (sources_of (take i files)) + sum_by size (sources_of (drop i files))
 sizes_cut files i =
     ap (λ (fs : List SourceFile). sum_by size (sources_of fs)) (sym (take-append-drop i files))
     ∙ ap (sum_by size) (map-append source_of (take i files) (drop i files))
     ∙ sum_by-append size (sources_of (take i files)) (sources_of (drop i files))
 
-next_size : (files : List SourceFile) (i : ℕ) (d : SourceFile) → i < length files → sum_by size (sources_of (take (i + 1) files)) ≡ sum_by size (sources_of (take i files)) + length (get_or files i d).bytes.items
+pub next_size : (files : List SourceFile) (i : ℕ) (d : SourceFile) → i < length files → sum_by size (sources_of (take (i + 1) files)) ≡ sum_by size (sources_of (take i files)) + length (get_or files i d).bytes.items
 next_size files i d l =
     let whole : sum_by size (sources_of (take (i + 1) files)) ≡ sum_by size (sources_of (take i files)) + sum_by size (source_of (get_or files i d) ∷ []) =
     ap (sum_by size) (next_source files i d l) ∙ sum_by-append size (sources_of (take i files)) (source_of (get_or files i d) ∷ []) in
@@ -75,3 +75,15 @@ module _ (first second : List ℕ) (object : first ≡ object_source) (string : 
 
   pub second_counts : r.files < 4294967295
   second_counts = omega (arith, is.files)
+
+-- both of them
+module _ (r : Reading) (is : IsReading (object_source ∷ string_source ∷ []) r) where
+  pub prelude_fits : length r.names ≤ 1000
+  prelude_fits = omega (
+    arith,
+    few_names (object_source ∷ string_source ∷ []) r is,
+    sum_by-cons length object_source (string_source ∷ []),
+    sum_by-cons length string_source [],
+    object_length,
+    string_length,
+  )

@@ -5,3 +5,6 @@ pub mod OneSource
 pub mod Readings
 pub mod Scanner
 pub mod PreludeTrees
+pub mod Threads
+pub mod TreeSending
+pub mod Sending

@@ -5,11 +5,15 @@
 //! nothing of scopes or rules.
 #![tactic(auto)]
 
+mod growing;
 pub mod laws;
+mod lexing;
+mod naming;
 mod read;
 mod reading;
 mod source_read;
 mod sources;
+mod terminals;
 
-pub use read::read_sources;
+pub use read::{read_in_threads, read_sources};
 pub use sources::Sources;

@@ -21,11 +21,11 @@ pub(crate) enum SourceRead {
 /// The codes of what may be wrong with a source.
 const NOT_UTF8: u8 = 1;
 
-const NO_TREE: u8 = 2;
+pub(crate) const NO_TREE: u8 = 2;
 
 const BAD_LITERAL: u8 = 3;
 
-const TOO_DEEP: u8 = 4;
+pub(crate) const TOO_DEEP: u8 = 4;
 
 const BAD_TOKEN: u8 = 5;
 
@@ -52,7 +52,7 @@ pub(crate) fn read_source(
 }
 
 /// What a source without tokens was read as.
-fn without_tokens(fault: LexFault) -> Result<SourceRead, AllocError>
+pub(crate) fn without_tokens(fault: LexFault) -> Result<SourceRead, AllocError>
     ensures reads { IfOk result (λ r. (bytes : List ℕ) (names : List (List ℕ)) → IsFaultOf bytes fault → Reads bytes names names (outcome_of r)) }
     ensures plain { IfOk result IsPlain }
 {

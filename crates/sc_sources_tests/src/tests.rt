@@ -5,10 +5,11 @@ ghost use Rattle.sc_io.specs.SourceFile.{sources_of};
 ghost use Rattle.sc_sources.specs.Read.{AreWithinLimits};
 
 use sc_io::SourceFile;
-use sc_sources::{Sources, read_sources};
+use sc_sources::{Sources, read_in_threads, read_sources};
 use std::alloc::{AllocError, Global};
 use std::fmt::Write;
 use std::test::Fail;
+use std::thread::Threads;
 
 /// Whether files are within the limits.
 fn are_within_limits(files: &[SourceFile]) -> bool
@@ -45,8 +46,13 @@ fn shown(alloc: Global, sources: &[&[u8]]) -> Result<String, Fail> {
     if !are_within_limits(&files) {
         return Err(Fail::new("too many bytes"));
     }
+    told(alloc, read_sources(alloc, &files)?)
+}
+
+/// How many trees there are, and how many names, or each fault by its file, its place and its code.
+fn told(alloc: Global, sources: Sources) -> Result<String, Fail> {
     let mut text = String::new(alloc);
-    match read_sources(alloc, &files)? {
+    match sources {
         Sources::Trees { names, units } => {
             write!(text, "{} trees, {} names", units.len(), names.len())?;
         }
@@ -124,5 +130,97 @@ fn nested_too_deep(rt: HostRuntime) -> Result<(), Fail> {
         found.as_str(),
         "2:216: 4 nested too deep; 3:0: 5 bad token; "
     );
+    Ok(())
+}
+
+/// A source, which blanks behind it make as long as it is to be, in bytes.
+fn padded(alloc: Global, source: &str, bytes: usize) -> Result<String, AllocError> {
+    let mut text = String::from_str(alloc, source)?;
+    for _byte in source.len()..bytes {
+        text.push(' ')?;
+    }
+    Ok(text)
+}
+
+/// Files of these sources, one a line, of which each is as long as it is to be.
+fn padded_files(alloc: Global, lines: &str, bytes: usize) -> Result<Vec<SourceFile>, AllocError> {
+    let mut files = Vec::new(alloc);
+    for line in lines.lines() {
+        let bytes = padded(alloc, line, bytes)?.into_bytes();
+        let path = String::from_str(alloc, "A.java")?;
+        files.push(SourceFile { path, bytes })?;
+    }
+    Ok(files)
+}
+
+/// What files come to that so many threads read.
+fn shown_in_threads<R: Threads + Sync>(
+    rt: &R,
+    alloc: Global,
+    files: &[SourceFile],
+    workers: u32,
+) -> Result<String, Fail> {
+    if !are_within_limits(files) {
+        return Err(Fail::new("too many bytes"));
+    }
+    told(alloc, read_in_threads(rt, alloc, files, workers)?)
+}
+
+/// Six files that declare one type each, with a field in the last.
+const SIX: &str = "class A {}
+class B {}
+class C {}
+class D { A a; }
+class E {}
+class F { int b; }";
+
+/// The same number of files, of which four have a fault of each kind.
+const FAULTY: &str = "class A { # }
+class B {}
+class C { int a = 2147483648; }
+enum D {}
+class E {}
+class F { int b }";
+
+/// What `SIX` and `FAULTY` come to with 20,000 bytes a file, whatever the number of threads.
+fn six_are_read<R: Threads + Sync>(rt: &R, alloc: Global, workers: u32) -> Result<bool, Fail> {
+    let six = padded_files(alloc, SIX, 20_000)?;
+    let found = shown_in_threads(rt, alloc, &six, workers)?;
+    Ok(found.as_str() == "8 trees, 22 names")
+}
+
+fn faults_are_told<R: Threads + Sync>(rt: &R, alloc: Global, workers: u32) -> Result<bool, Fail> {
+    let faulty = padded_files(alloc, FAULTY, 20_000)?;
+    let found = shown_in_threads(rt, alloc, &faulty, workers)?;
+    Ok(
+        found.as_str()
+            == "2:10: 5 bad token; 4:18: 3 bad literal; 5:0: 2 syntax error; 7:16: 2 syntax error; ",
+    )
+}
+
+#[test]
+fn threads_read_the_same(rt: HostRuntime) -> Result<(), Fail> {
+    for workers in [0, 1, 2, 3, 7, 64] {
+        assert!(rt; six_are_read(&rt, rt.alloc(), workers)?);
+        assert!(rt; faults_are_told(&rt, rt.alloc(), workers)?);
+    }
+    Ok(())
+}
+
+/// Files of which each nests as deep as a source may, and the last one deeper.
+fn deep_files(alloc: Global) -> Result<Vec<SourceFile>, AllocError> {
+    let mut lines = String::new(alloc);
+    for times in [190, 190, 190, 199] {
+        lines.push_str(&nested(alloc, times)?)?;
+        lines.push('\n')?;
+    }
+    padded_files(alloc, &lines, 40_000)
+}
+
+#[test]
+fn threads_have_room_for_the_deepest(rt: HostRuntime) -> Result<(), Fail> {
+    let files = deep_files(rt.alloc())?;
+    let found = shown_in_threads(&rt, rt.alloc(), &files, 4)?;
+    assert_eq!(rt; found.as_str(), "5:216: 4 nested too deep; ");
     Ok(())
 }

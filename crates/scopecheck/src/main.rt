@@ -6,12 +6,12 @@ use sc_app::{Status, run_gated};
 use sc_io::{DirTree, StdSink};
 use sg_unit::NoGate;
 use std::alloc::AllocError;
-use std::env;
 use std::io::{self, ErrorKind};
 use std::process::ExitCode;
 use std::rt::{Env, Files};
 use std::sync::Wait;
 use std::thread::Threads;
+use std::{env, mem};
 
 fn main(rt: HostRuntime) -> ExitCode {
     let status = match words(&rt) {
@@ -48,5 +48,9 @@ fn run_words<R: Files + Print + AllocGlobal + Threads + Wait + Sync + Clone + Co
     };
     let mut tree = DirTree::new(rt, folder);
     let mut out = StdSink::new(rt);
-    Ok(run_gated(&rt, alloc, texts.as_slice(), &mut tree, &mut out, &NoGate).status)
+    let ran = run_gated(&rt, alloc, texts.as_slice(), &mut tree, &mut out, &NoGate);
+    let status = ran.status;
+    // The system takes back all at once what the run made.
+    mem::forget(ran);
+    Ok(status)
 }

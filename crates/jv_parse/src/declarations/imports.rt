@@ -50,10 +50,10 @@ fn path<'a>(
         };
         ids.push(next)?;
         let Some(dotted) = behind(DOT, after) else {
-            return Ok((nodes::import(Name { ids }, false), after));
+            return Ok((nodes::import(Name { ids }, false, false), after));
         };
         if let Some(end) = behind(STAR, dotted) {
-            return Ok((nodes::import(Name { ids }, true), end));
+            return Ok((nodes::import(Name { ids }, true, false), end));
         }
         rest = dotted;
     }

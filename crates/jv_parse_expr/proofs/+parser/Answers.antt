@@ -1,14 +1,13 @@
-use Rattle.std.proofs.Common.{◌≡◌, ℕ, ◌-◌, ◌+◌, ◌<◌, sym, ap, ◌∙◌, subst, arith, vec_len}
-use borrow.Author.Tests.{eqb-true}
+use Rattle.std.proofs.Common.{ℕ, ◌-◌, ◌+◌, sym, ap, ◌∙◌, subst, arith}
 use Rattle.jv_tree.specs.ExprTree as t
 use Rattle.jv_tree.specs.ExprTree.{ExprTrees, InitTrees, LinkTrees, expr_tree, expr_trees, init_trees, link_trees}
 use Rattle.jv_grammar.specs.ExprGrammar.{at_of}
 use Rattle.jv_grammar.specs.Reader.{Reads}
 use Rattle.jv_grammar.specs.ExprReader.{Parsed, below, done, exprs_of, inits_of, sizes_of, links_of, bin_of}
-use Rattle.jv_parse_expr.specs.View.{Fails, Gives, left, shown, level_at, tighter_than}
+use Rattle.jv_parse_expr.specs.View.{Fails, left, level_at, tighter_than}
 use Rattle.jv_parse_expr.proofs.Faults.{refuses}
 use Rattle.jv_parse_expr.proofs.ListTurns.{exprs_onto, inits_onto, sizes_onto, some_exprs, some_inits, exprs_begin, exprs_over, exprs_failed, exprs_done, exprs_next, inits_begin, inits_over, inits_failed, inits_refused, inits_ended, inits_next, sizes_begin, sizes_full, sizes_last, sizes_pairs, sizes_no_pairs, sizes_end, size_failed, size_refused, size_next}
-use Rattle.jv_parse_expr.proofs.LinkTurns.{pos_of, links_onto, links_begin, links_over, links_failed, links_done, links_next, bin_last, bin_failed, bin_links_failed, bin_alone, bin_chain}
+use Rattle.jv_parse_expr.proofs.LinkTurns.{links_onto, links_begin, links_over, links_failed, links_done, links_next, unary_failed, unary_read, climbs_failed, climbs, sunk}
 use Rattle.jv_parse_expr.proofs.SuffixTurns.{no_member, super_refused, suffixes_begin, suffixes_over, suffix_failed, suffix_done, suffix_next}
 use Rattle.jv_parse_expr.proofs.+parser.Goals as goal
 
@@ -177,26 +176,32 @@ pub expressions::links-returns : goal.expressions::links-returns
 expressions::links-returns m c =
     refuses _ _ _ c.refused.ensures (sym c.loop-i.invariant.goes ∙ links_over (bin_of (below c.args.fuel) (tighter_than c.args.level)) (level_at c.args.level) c.loop-i.items.items c.args.count c.loop-i.rest.now c.loop-i._i c.loop-i-test.false)
 
-pub expressions::binary-returns-then-level-eq10 : goal.expressions::binary-returns-then-level-eq10
-expressions::binary-returns-then-level-eq10 m c =
-    subst (λ (r : Reads Parsed). Gives shown c.unary.result r) (sym (bin_last (below c.args.fuel) c.args.level c.args.terminals.now c.if-level-eq10.true)) c.unary.ensures
-
 pub expressions::binary-returns-in-Err : goal.expressions::binary-returns-in-Err
-expressions::binary-returns-in-Err m c =
-    bin_failed (below c.args.fuel) c.args.level c.args.terminals.now (omega (arith, c.requires, c.if-level-eq10.false)) c.in-Err.fault c.in-Err.ensures
+expressions::binary-returns-in-Err m c = unary_failed (below c.args.fuel) c.args.level c.args.terminals.now c.requires c.in-Err.fault c.in-Err.ensures
+
+pub expressions::binary-loop-next-init : goal.expressions::binary-loop-next-init
+expressions::binary-loop-next-init m c = record {
+  in_levels = omega arith;
+  from_level = c.requires;
+  goes = unary_read (below c.args.fuel) c.args.terminals.now (c.in-Ok.read.0, expr_tree c.in-Ok.read.1) c.in-Ok.read.2.now c.in-Ok.ensures;
+}
 
 pub expressions::binary-returns-in-Err-links : goal.expressions::binary-returns-in-Err-links
 expressions::binary-returns-in-Err-links m c =
-    bin_links_failed (below c.args.fuel) c.args.level c.args.terminals.now (omega (arith, c.requires, c.if-level-eq10.false)) c.in-Ok.read.0 (expr_tree c.in-Ok.read.1) c.in-Ok.read.2.now c.in-Ok.ensures c.in-Err-links.fault c.in-Err-links.ensures
+    climbs_failed (below c.args.fuel) c.in-Some.next c.loop-next.held c.args.terminals.now c.loop-next.invariant.in_levels c.in-Some.ensures.1 (c.loop-next.outer, expr_tree c.loop-next.inner)
+    c.loop-next.rest.now c.loop-next.invariant.goes c.in-Some.ensures.2 c.args.level c.in-Some.ensures.0 c.in-Err-links.fault c.in-Err-links.ensures
 
-pub expressions::binary-returns-then-is_empty : goal.expressions::binary-returns-then-is_empty
-expressions::binary-returns-then-is_empty m c =
-    let z : vec_len c.in-Ok-links.read.0 ≡ 0 = eqb-true _ _ (sym c.if-is_empty.ensures) in
-    bin_alone (below c.args.fuel) c.args.level c.args.terminals.now (omega (arith, c.requires, c.if-level-eq10.false)) c.in-Ok.read.0 (expr_tree c.in-Ok.read.1) c.in-Ok.read.2.now c.in-Ok.ensures
-    c.in-Ok-links.read.0.items c.in-Ok-links.read.1.now c.in-Ok-links.ensures (omega (arith, c.in-Ok-links.read.0.ok.0))
+pub expressions::binary-loop-next-preserved : goal.expressions::binary-loop-next-preserved
+expressions::binary-loop-next-preserved m c = record {
+  in_levels = omega (arith, c.loop-next.invariant.in_levels, c.in-Some.ensures.1);
+  from_level = c.in-Some.ensures.0;
+  goes =
+      climbs (below c.args.fuel) c.in-Some.next c.loop-next.held c.args.terminals.now c.loop-next.invariant.in_levels c.in-Some.ensures.1 (c.loop-next.outer, expr_tree c.loop-next.inner)
+      c.loop-next.rest.now c.loop-next.invariant.goes c.in-Some.ensures.2 (link_trees c.in-Ok-links.read.0.items) c.in-Ok-links.read.1.now
+      (c.in-Ok-with_links.whole.0, expr_tree c.in-Ok-with_links.whole.1) c.in-Ok-links.ensures c.in-Ok-with_links.ensures;
+}
 
 pub expressions::binary-returns : goal.expressions::binary-returns
 expressions::binary-returns m c =
-    let z : 0 < vec_len c.in-Ok-links.read.0 = pos_of _ c.if-is_empty.ensures in
-    bin_chain (below c.args.fuel) c.args.level c.args.terminals.now (omega (arith, c.requires, c.if-level-eq10.false)) c.in-Ok.read.0 (expr_tree c.in-Ok.read.1) c.in-Ok.read.2.now c.in-Ok.ensures
-    c.in-Ok-links.read.0.items c.in-Ok-links.read.1.now (expr_tree c.in-Ok-chain.whole) c.in-Ok-links.ensures (omega (arith, c.in-Ok-links.read.0.ok.0)) c.in-Ok-chain.ensures
+    sunk (below c.args.fuel) c.args.level c.loop-next.held c.args.terminals.now c.loop-next.invariant.in_levels c.loop-next.invariant.from_level (c.loop-next.outer, expr_tree c.loop-next.inner)
+    c.loop-next.rest.now c.loop-next.invariant.goes c.in_default.ensures

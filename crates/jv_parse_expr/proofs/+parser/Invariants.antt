@@ -1,5 +1,6 @@
-use Rattle.std.proofs.Common.{◌≡◌, ◌+◌, ◌-◌, ◌*◌, ◌<◌}
+use Rattle.std.proofs.Common.{◌≡◌, ◌+◌, ◌-◌, ◌*◌, ◌<◌, ◌≤◌, drop, Ok}
 use Rattle.jv_tree.specs.ExprTree.{expr_tree}
+use Rattle.jv_tree.specs.Shaped.{levels}
 use Rattle.jv_grammar.specs.ExprReader.{below, exprs_of, inits_of, sizes_of, suffixes_of, links_of, bin_of}
 use Rattle.jv_parse_expr.specs.View.{level_at, tighter_than}
 use Rattle.jv_parse_expr.proofs.ListTurns.{exprs_onto, inits_onto, sizes_onto}
@@ -104,3 +105,13 @@ invariant-expressions::links-loop-i l = record {
   in_levels : l.level < 10;
   goes : links_onto l.items.items (links_of (bin_of (below l.fuel) (tighter_than l.level)) (level_at l.level) (l.count - l._i) l.rest) ≡ links_of (bin_of (below l.fuel) (tighter_than l.level)) (level_at l.level) l.count l.terminals;
 }
+
+abbrev pub invariant-expressions::binary-loop-next : goal.invariant-expressions::binary-loop-next
+invariant-expressions::binary-loop-next l = record {
+  in_levels : l.held ≤ 10;
+  from_level : l.level ≤ l.held;
+  goes : bin_of (below l.fuel) (drop l.held levels) l.terminals ≡ Ok ((l.outer, expr_tree l.inner), l.rest);
+}
+
+abbrev pub decreases-expressions::binary-loop-next : goal.decreases-expressions::binary-loop-next
+decreases-expressions::binary-loop-next l = l.held

@@ -109,7 +109,8 @@ fn word_of<'a>(kind: &ExprKind) -> Option<&'a str> {
         ExprKind::Long => Some(" #long"),
         ExprKind::Char => Some(" #char"),
         ExprKind::Str => Some(" #str"),
-        ExprKind::Bool => Some(" #bool"),
+        ExprKind::Bool(true) => Some(" #true"),
+        ExprKind::Bool(false) => Some(" #false"),
         ExprKind::Null => Some(" #null"),
         ExprKind::This => Some(" this"),
         _ => None,
@@ -430,9 +431,14 @@ fn put_members<'a>(parts: &mut Vec<Part<'a>>, members: &'a [Member]) -> Result<(
 
 fn put_imports<'a>(parts: &mut Vec<Part<'a>>, imports: &'a [Import]) -> Result<(), AllocError> {
     for import in imports {
+        let word = if import.is_static {
+            " (import static"
+        } else {
+            " (import"
+        };
         let end = if import.all { " *)" } else { ")" };
         let name = Part::Name(&import.name);
-        put_all(parts, &[Part::Text(" (import"), name, Part::Text(end)])?;
+        put_all(parts, &[Part::Text(word), name, Part::Text(end)])?;
     }
     Ok(())
 }

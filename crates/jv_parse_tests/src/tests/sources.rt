@@ -221,7 +221,7 @@ const STATEMENTS: [(&str, &str); 58] = [
     ("class B {}", "no"),
 ];
 
-const EXPRESSIONS: [(&str, &str); 62] = [
+const EXPRESSIONS: [(&str, &str); 65] = [
     ("a - b - c", " (chain a 29 b 29 c)"),
     ("a - b * c - d", " (chain a 29 (chain b 30 c) 29 d)"),
     (
@@ -269,8 +269,11 @@ const EXPRESSIONS: [(&str, &str); 62] = [
     ("\"s\".f()", " (call #str . f)"),
     (
         "'c' + 1L + true + null",
-        " (chain #char 28 #long 28 #bool 28 #null)",
+        " (chain #char 28 #long 28 #true 28 #null)",
     ),
+    ("true", " #true"),
+    ("false", " #false"),
+    ("false != (true)", " (chain #false 23 #true)"),
     ("new a.B(c)", " (new a.B c)"),
     ("new A().b", " (. (new A) b)"),
     ("new int[3][]", " (array int[] #int)"),

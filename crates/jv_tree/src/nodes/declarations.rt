@@ -29,10 +29,14 @@ pub fn unit(package: Option<Name>, imports: Vec<Import>, types: Vec<TypeDecl>) -
 }
 
 /// An import.
-pub fn import(name: Name, all: bool) -> Import
-    ensures { import_tree result ≡ record { name = ids_of name; all = all } }
+pub fn import(name: Name, all: bool, is_static: bool) -> Import
+    ensures { import_tree result ≡ record { name = ids_of name; all = all; is_static = is_static } }
 {
-    Import { name, all }
+    Import {
+        name,
+        all,
+        is_static,
+    }
 }
 
 /// A class or an interface.

@@ -66,13 +66,13 @@ pub fn string_literal(at: u32) -> Expr
     }
 }
 
-/// `true` or `false`.
-pub fn bool_literal(at: u32) -> Expr
-    ensures { expr_tree result ≡ e.expr at e.bool }
+/// `true` or `false`, by its value.
+pub fn bool_literal(at: u32, value: bool) -> Expr
+    ensures { expr_tree result ≡ e.expr at (e.bool value) }
 {
     Expr {
         at,
-        kind: ExprKind::Bool,
+        kind: ExprKind::Bool(value),
     }
 }
 

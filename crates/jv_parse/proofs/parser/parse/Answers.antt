@@ -23,20 +23,20 @@ returns-clause-names c =
 pub returns-clause-not_in_grammar : goal.returns-clause-not_in_grammar
 returns-clause-not_in_grammar c =
     let terminals : c.deref.result.now ≡ terminals_of c.args.source.now c.name_tokens.new.names c.args.tokens.now = c.deref.ensures.value ∙ c.in_ok-terminals.ensures.terminals in
-    subst (λ ts. IsAnswered c.tree.result → (i : ℕ) → (c.tree.result ≡ Err (NotInGrammar i)) ↔ (HasNoTree ts × IsRefusedAt ts i)) terminals
-    (λ a i. says_none c.deref.result.now c.tree.result i c.tree.ensures a)
+    subst (λ ts. IsAnswered c.parse_terminals.result → (i : ℕ) → (c.parse_terminals.result ≡ Err (NotInGrammar i)) ↔ (HasNoTree ts × IsRefusedAt ts i)) terminals
+    (λ a i. says_none c.deref.result.now c.parse_terminals.result i c.parse_terminals.ensures a)
 
 pub returns-clause-count : goal.returns-clause-count
 returns-clause-count c =
     let source : List ℕ = c.args.source.now in
     let tokens : List Token = c.args.tokens.now in
     let terminals : c.deref.result.now ≡ terminals_of source c.name_tokens.new.names tokens = c.deref.ensures.value ∙ c.in_ok-terminals.ensures.terminals in
-    few_identifiers c.deref.result.now (length tokens) c.tree.result (ap length terminals ∙ length-map tokens (terminal_of source c.name_tokens.new.names)) c.tree.ensures
+    few_identifiers c.deref.result.now (length tokens) c.parse_terminals.result (ap length terminals ∙ length-map tokens (terminal_of source c.name_tokens.new.names)) c.parse_terminals.ensures
 
 pub returns-clause-numbered : goal.returns-clause-numbered
 returns-clause-numbered c =
     let source : List ℕ = c.args.source.now in
     let names : List (List ℕ) = c.name_tokens.new.names in
     let terminals : c.deref.result.now ≡ terminals_of source names c.args.tokens.now = c.deref.ensures.value ∙ c.in_ok-terminals.ensures.terminals in
-    numbered_tree c.deref.result.now (length names) c.tree.result
-    (subst (AreNumberedTerminals (length names)) (sym terminals) (numbered_terminals source names c.args.tokens.now c.in_ok-terminals.ensures.known)) c.tree.ensures
+    numbered_tree c.deref.result.now (length names) c.parse_terminals.result
+    (subst (AreNumberedTerminals (length names)) (sym terminals) (numbered_terminals source names c.args.tokens.now c.in_ok-terminals.ensures.known)) c.parse_terminals.ensures

@@ -21,5 +21,7 @@ returns c = λ at n. (
   (tt, tt, (28 ∷ 29 ∷ [], additive, (refl, (λ h. absurd (omega arith)), tt, (refl, (λ h. absurd (omega arith)), tt, tt)))),
   (λ h. h.1),
   (λ h. h.1),
-  λ h. true≢false h.2.1,
+  (λ h. true≢false h.2.1),
+  (λ h. let e = h.1 refl refl in absurd (omega arith)),
+  (omega arith, λ s e. absurd (true≢false e)),
 )

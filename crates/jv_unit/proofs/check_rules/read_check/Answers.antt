@@ -24,17 +24,17 @@ returns-then-place-count-4-clause-reads c =
     (omega (arith, c.if-place-count-2.false, c.if-place-count-3.false, c.if-place-count-4.true, c.member_count-count.ensures.count)) c.read_calling.result
     (omega (arith, c.if-place-count-2.false, c.if-place-count-3.false, c.member_count-count.ensures.count)) c.read_calling.ensures
 
-pub read_body-requires-clause-so_far : goal.read_body-requires-clause-so_far
-read_body-requires-clause-so_far c =
+pub read_whole_body-requires-clause-so_far : goal.read_whole_body-requires-clause-so_far
+read_whole_body-requires-clause-so_far c =
     left_of_body (reply_to c.args.o.now) (folder_of c.args.w.now) c.args.t c.args.blanks.now c.args.place c.member_number-m-2.result (c.args.place - 3 * c.member_count-count.result - 1) c.member_number-m-2.ensures.number (omega (arith, c.requires.place, c.if-place-count-4.false, c.member_count-count.ensures.count, count_checks (members_of_type c.args.w.now.layout c.args.t))) (omega (arith, c.if-place-count-4.false, c.member_count-count.ensures.count))
     c.args.progress.now c.requires.so_far
 
 pub returns-clause-reads : goal.returns-clause-reads
 returns-clause-reads c =
     body_here (reply_to c.args.o.now) (folder_of c.args.w.now) c.args.t c.args.blanks.now c.args.place c.member_number-m-2.result (c.args.place - 3 * c.member_count-count.result - 1) c.member_number-m-2.ensures.number (omega (arith, c.requires.place, c.if-place-count-4.false, c.member_count-count.ensures.count, count_checks (members_of_type c.args.w.now.layout c.args.t))) (omega (arith, c.if-place-count-4.false, c.member_count-count.ensures.count))
-    c.read_body.result c.read_body.ensures.reads
+    c.read_whole_body.result c.read_whole_body.ensures.reads
 
 pub returns-clause-so_far : goal.returns-clause-so_far
 returns-clause-so_far c =
     left_here (reply_to c.args.o.now) (folder_of c.args.w.now) c.args.t c.args.blanks.now c.args.place c.member_number-m-2.result (c.args.place - 3 * c.member_count-count.result - 1) c.member_number-m-2.ensures.number (omega (arith, c.requires.place, c.if-place-count-4.false, c.member_count-count.ensures.count, count_checks (members_of_type c.args.w.now.layout c.args.t))) (omega (arith, c.if-place-count-4.false, c.member_count-count.ensures.count))
-    c.read_body.new.progress c.read_body.ensures.so_far
+    c.read_whole_body.new.progress c.read_whole_body.ensures.so_far

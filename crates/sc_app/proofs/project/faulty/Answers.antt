@@ -15,4 +15,5 @@ returns-clause-outcome c =
       diagnoses = faults_diagnosed (sources_of c.args.files.items) c.args.faults c.requires.faults;
       sorted = subst (λ (ds : List DiagOf). AreSorted ds (map diag_of c.sorted_diags.result.items)) c.into_vec.ensures c.sorted_diags.ensures;
       ran = fault_there (sources_of c.args.files.items) c.args.faults c.requires.faults;
+      found_by = tt;
     }

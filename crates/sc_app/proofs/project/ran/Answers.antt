@@ -10,6 +10,7 @@ use Rattle.sc_report.specs.Report.{AreSorted}
 use Rattle.sc_app.specs.Diagnoses.{Diagnoses}
 use Rattle.sc_app.specs.FolderReport.{Reports}
 use Rattle.sc_app.specs.FolderRun.{ruled}
+use Rattle.sc_app.specs.Found.{IsFoundBy}
 use Rattle.sc_app.proofs.Checked.{diagnosed, ran_on}
 use Rattle.sc_app.proofs.project.ran.Goals as goal
 
@@ -18,7 +19,7 @@ returns-clause-outcome c =
     let w : Folder = arc_value c.args.folder in
     let fs = sources_of c.args.files.items in
     let ready = c.requires.ready in
-    let reports : Reports (ruled (folder_of w)) c.in-Ok.diags = subst (λ (z : Folder). Reports (ruled (folder_of z)) c.in-Ok.diags) c.deref.ensures c.in-Ok.ensures in
+    let reports : Reports (ruled (folder_of w)) c.in-Ok.diags = subst (λ (z : Folder). Reports (ruled (folder_of z)) c.in-Ok.diags) c.deref.ensures c.in-Ok.ensures.reports in
     record {
       sources = refl;
       files = ap length c.as_slice.ensures.value ∙ sym (length-map c.args.files.items source_of);
@@ -27,4 +28,5 @@ returns-clause-outcome c =
           (diagnosed w (layout_of ready.names ready.trees) ready.names ready.trees (folder_of w).kinds refl ready.folder fs c.in-Ok.diags ready.have ready.few reports);
       sorted = subst (λ (ds : List DiagOf). AreSorted ds (map diag_of c.sorted_diags.result.items)) c.into_vec.ensures c.sorted_diags.ensures;
       ran = ran_on w (layout_of ready.names ready.trees) ready.names ready.trees (folder_of w).kinds refl ready.folder fs c.args.core ready.have ready.whole c.requires.run;
+      found_by = subst (λ (z : Folder). IsFoundBy (folder_of z) c.args.core c.in-Ok.diags) c.deref.ensures c.in-Ok.ensures.found;
     }

@@ -1,4 +1,4 @@
-use Rattle.std.proofs.Common.{IfSome, List, ap, map, subst, sym}
+use Rattle.std.proofs.Common.{Err, IfSome, List, ap, map, subst, sym}
 use Rattle.sc_io.specs.SourceTree.{FileOf}
 use Rattle.sc_app.specs.declared.command.Command.TheVariants.{Gen}
 use Rattle.sc_app.specs.declared.ran.Ran.{Ran}
@@ -39,3 +39,7 @@ returns-in-Ok-clause-limit g c = λ which e.
 
 pub returns-in-Ok-clause-unread : goal.returns-in-Ok-clause-unread
 returns-in-Ok-clause-unread g c = λ n workers asks. c.in-Ok.ensures.unread (subst MakesProject (asked_once (map (λ w. w.now) c.args.words.now) (Gen n) c.in-Some.asked.command workers c.in-Some.asked.workers asks c.in-Some.ensures) tt)
+
+pub returns-in-Err-Failed-clause-no_read_fault : goal.returns-in-Err-Failed-clause-no_read_fault
+returns-in-Err-Failed-clause-no_read_fault g c = λ n workers asks e.
+    c.in-Err-Failed.ensures.made (subst MakesProject (asked_once (map (λ w. w.now) c.args.words.now) (Gen n) c.in-Some.asked.command workers c.in-Some.asked.workers asks c.in-Some.ensures) tt) (ap Err c.in-Err-Failed.field-0-is)

@@ -16,7 +16,7 @@ pub returns-in_default-behind : goal.returns-in_default-behind
 returns-in_default-behind c =
     sym c.loop-i.invariant
     ∙ path_done c.args.count c.loop-i._i c.loop-i.ids.items c.loop-i.rest.now c.loop-i-test.true c.in-Some.next c.in-Some.after.now c.in-Some.ensures c.in_default-behind.ensures
-    ∙ ap (some_path c.in-Some.after.now false) (sym c.in_ok-push.ensures.items)
+    ∙ ap (some_path c.in-Some.after.now false false) (sym c.in_ok-push.ensures.items)
     ∙ ap (path_read c.in-Some.after.now) (sym c.import.ensures)
 
 pub returns-in-Some-behind-2 : goal.returns-in-Some-behind-2
@@ -24,7 +24,7 @@ returns-in-Some-behind-2 c =
     sym c.loop-i.invariant
     ∙ path_all c.args.count c.loop-i._i c.loop-i.ids.items c.loop-i.rest.now c.loop-i-test.true c.in-Some.next c.in-Some.after.now c.in-Some.ensures
     c.in-Some-behind.dotted.now c.in-Some-behind.ensures.0 c.in-Some-behind.ensures.1 c.in-Some-behind-2.end.now c.in-Some-behind-2.ensures.0 c.in-Some-behind-2.ensures.1
-    ∙ ap (some_path c.in-Some-behind-2.end.now true) (sym c.in_ok-push.ensures.items)
+    ∙ ap (some_path c.in-Some-behind-2.end.now true false) (sym c.in_ok-push.ensures.items)
     ∙ ap (path_read c.in-Some-behind-2.end.now) (sym c.import-in-Some-behind-2.ensures)
 
 pub loop-i-preserved : goal.loop-i-preserved

@@ -1,0 +1,15 @@
+pub mod Bools
+pub mod Unreached
+pub mod Heads
+pub mod Leading
+pub mod Runs
+pub mod Holding
+pub mod Agreeing
+pub mod Faulty
+pub mod Rising
+pub mod Walks
+pub mod Findings
+pub mod Ordered
+pub mod Members
+pub mod RisingOrder
+pub mod Telling

@@ -1,0 +1,10 @@
+pub mod Condition
+pub mod Place
+pub mod Run
+pub mod Reachable
+pub mod Law
+pub mod Fault
+pub mod FaultList
+pub mod FlowFaults
+pub mod Ends
+pub mod Example
