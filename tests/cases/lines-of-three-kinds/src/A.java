@@ -1,4 +1,0 @@
-class A {}
-class B {}class C {}
-class D extends X {}
-	class E extends Y {}
