@@ -1,5 +1,4 @@
-//! What is read of whole folders, from their sources: the openings of their layouts, and their imports, headers, declarations and
-//! fields, as files and types have them by the answers of a finished graph.
+//! The openings of whole folders, from their sources, and what the rules of imports, headers and dependence ask in one.
 //!
 //! All of it is tests. They stand below the crate that checks folders, so that they are proved without it.
 #![tactic(auto)]

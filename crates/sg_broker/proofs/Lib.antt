@@ -1,4 +1,9 @@
+mod Answered
+mod Behind
+mod Gaining
+mod GivenBack
 mod Joining
+mod Seated
 mod Seats
 mod Sending
 mod Turning

@@ -1,4 +1,4 @@
-ghost use Rattle.std.specs.Prelude.{◌≡◌, ◌<◌, ◌≤◌, ℕ, [], false, true, length, IfOk, OnErr, All};
+ghost use Rattle.std.specs.Prelude.{◌≡◌, ◌<◌, ◌≤◌, ℕ, [], false, true, length, IfOk, IsOk, OnErr, All};
 ghost use Rattle.sg_broker.specs.Broker.{IsAt, Adds, new_seats};
 ghost use Rattle.sg_core.specs.Core.{IsCore, entry};
 ghost use Rattle.sg_unit.specs.Own.{MayBy, CanReply, own};
@@ -7,7 +7,10 @@ ghost use Rattle.sg_unit.specs.Unit.{setting_of};
 
 use crate::closing::gather_all;
 use crate::core_in_turn::CoreInTurn;
+use crate::in_turn::apply_in_turn;
+use crate::keeping::keep;
 use crate::seating::seat_all;
+use crate::step::Step;
 use crate::unit_seat::UnitSeat;
 use sg_base::Instance;
 use sg_core::Core;
@@ -58,15 +61,18 @@ impl<I: Instance, R: Drop> Broker<I, R> {
         let places = Vec::with_capacity(alloc, units as usize)?;
         let core = Box::new(alloc, core)?;
         let (turn, seats) = Turn::new(alloc, CoreInTurn { core }, units)?;
-        let places = seat_all(&turn, seats, places, units);
+        let places = seat_all(alloc, &turn, seats, places, units);
         Ok((Broker { turn }, places))
     }
 
-    /// Waits for the seat's turn, and applies one operation of its unit. An event is added to the log, and the log up to it
-    /// begins with all that the seat had seen. After want of memory the log is as it was, and the seat is spent.
+    /// Applies one operation of the seat's unit. Once the seat has seen that nobody holds anything of the graph, an ask that is
+    /// answered there, its advance and its take need no turn, and the seat keeps these events. Any other operation waits for the
+    /// seat's turn, in which the events that the seat kept go into the log before its own, behind all that the seat had seen.
+    /// After want of memory the unit's events are as they were, and the seat is spent.
     ///
-    /// Costs what the operation costs (`Core::apply`), which others wait for, and a turn (`Turn::lock`). The core is changed where
-    /// it is: only a pointer to it changes hands.
+    /// Costs what the operation costs (`Core::apply`), which others wait for, moving the events that were kept, and a turn
+    /// (`Turn::lock`); without a turn a search and a place for its events. The core is changed where it is: only a pointer to
+    /// it changes hands.
     pub fn apply<Rt: Wait>(
         &self,
         rt: &Rt,
@@ -80,34 +86,45 @@ impl<I: Instance, R: Drop> Broker<I, R> {
         ensures err { OnErr result ((seat.new.mine ≡ seat.old.mine) × (seat.new.spent ≡ true)) }
         ensures seat { IsAt self.now seat.new × (seat.new.number ≡ seat.old.number) }
     {
-        let CoreInTurn { mut core } = self.turn.lock(rt, &mut seat.seat);
-        let _log = core.log();
-        let reply = core.apply(seat.number, op);
-        self.turn.unlock(&mut seat.seat, CoreInTurn { core });
-        reply
+        match keep(
+            &seat.aside.sight,
+            seat.aside.count,
+            &mut seat.aside.kept,
+            seat.number,
+            op,
+        ) {
+            Step::Told(reply) => Ok(reply),
+            Step::Turn(op, ahead) => apply_in_turn(&self.turn, rt, seat, op, ahead),
+        }
     }
 
-    /// The core, once all seats are back. Its log is a legal run from the opening, and the events of each unit are those of
-    /// its seat. Takes no memory.
+    /// The core, once all seats are back, with the events that they kept: a seat that keeps some has a last turn. Its log is a
+    /// legal run from the opening, and the events of each unit are those of its seat. Takes no memory where no seat keeps an
+    /// event, as where each unit has ended or waits. Want of memory drops the core.
     ///
-    /// Its cost grows with the number of units.
-    pub fn close(self, seats: Vec<UnitSeat<I, R>>) -> Core<I, R>
+    /// Its cost grows with the number of units and of the events that were kept.
+    pub fn close<Rt: Wait>(
+        self,
+        rt: &Rt,
+        seats: Vec<UnitSeat<I, R>>,
+    ) -> Result<Core<I, R>, AllocError>
         requires count { (length seats.items ≡ length self.opening.made) × (0 < length seats.items) }
         requires own { All (λ s. IsAt self s) seats.items }
-        ensures core { IsCore I.wants I.same_datum result }
-        ensures begins { (result.opening ≡ self.opening) × (result.kinds ≡ self.kinds) }
-        ensures own { All (λ s. own s.number result.log ≡ s.mine) seats.items }
-        ensures others { (n : ℕ) → length self.opening.made ≤ n → own n result.log ≡ [] }
+        ensures core { IfOk result (IsCore I.wants I.same_datum) }
+        ensures begins { IfOk result (λ c. (c.opening ≡ self.opening) × (c.kinds ≡ self.kinds)) }
+        ensures own { IfOk result (λ c. All (λ s. own s.number c.log ≡ s.mine) seats.items) }
+        ensures others { IfOk result (λ c. (n : ℕ) → length self.opening.made ≤ n → own n c.log ≡ []) }
+        ensures full { All (λ s. s.kept ≡ []) seats.items → IsOk result }
     {
         let mut left = seats;
         let Some(first) = left.pop() else {
             unreachable!()
         };
         let Broker { turn } = self;
-        let all = gather_all(&turn, first, left);
+        let all = gather_all(&turn, rt, first, left)?;
         let CoreInTurn { core } = turn.close_with(all);
         let core = Box::into_inner(core);
         let _log = core.log();
-        core
+        Ok(core)
     }
 }

@@ -1,33 +1,57 @@
 //! Taking the seats back.
 
-ghost use Rattle.std.specs.Prelude.{◌≡◌, Some, false, All};
-ghost use Rattle.sg_broker.specs.Broker.{begun, told_events};
+ghost use Rattle.std.specs.Prelude.{◌≡◌, [], Some, false, IfOk, IsOk, All};
+ghost use Rattle.sg_broker.specs.Broker.{IsAtLock, begun, told_events};
 
 use crate::core_in_turn::CoreInTurn;
+use crate::in_turn::settle;
 use crate::unit_seat::UnitSeat;
 use sg_base::Instance;
 use sg_turn::{Turn, TurnSeat};
+use std::alloc::AllocError;
+use std::sync::Wait;
 
-/// The lock's seat of the first of these, which took back those of the others.
-pub(crate) fn gather_all<I: Instance, R: Drop>(
+/// The lock's seat of a seat that keeps no event, after a last turn where it kept some.
+fn settled<I: Instance, R: Drop, Rt: Wait>(
     turn: &Turn<CoreInTurn<I, R>>,
+    rt: &Rt,
+    seat: UnitSeat<I, R>,
+) -> Result<TurnSeat<CoreInTurn<I, R>>, AllocError>
+    requires own { IsAtLock turn.now seat }
+    requires root { turn.now.root ≡ begun turn.now.root.opening turn.now.root.kinds }
+    ensures seat { IfOk result (λ t. (t.turn ≡ turn.now.turn) × (t.root ≡ Some turn.now.root) × (t.number ≡ seat.number) × (t.mine ≡ seat.mine) × (t.inside ≡ false) × (t.kept ≡ [])) }
+    ensures none { seat.kept ≡ [] → IsOk result }
+{
+    let mut seat = seat;
+    settle(turn, rt, &mut seat)?;
+    let UnitSeat {
+        seat,
+        number: _,
+        spent: _,
+        aside: _,
+    } = seat;
+    Ok(seat)
+}
+
+/// The lock's seat of the first of these, which took back those of the others. What they kept is in the log.
+pub(crate) fn gather_all<I: Instance, R: Drop, Rt: Wait>(
+    turn: &Turn<CoreInTurn<I, R>>,
+    rt: &Rt,
     first: UnitSeat<I, R>,
     others: Vec<UnitSeat<I, R>>,
-) -> TurnSeat<CoreInTurn<I, R>>
+) -> Result<TurnSeat<CoreInTurn<I, R>>, AllocError>
     requires root { turn.now.root ≡ begun turn.now.root.opening turn.now.root.kinds }
-    requires first { (first.turn ≡ turn.now.turn) × (first.opening ≡ turn.now.root.opening) × (first.kinds ≡ turn.now.root.kinds) }
-    requires others { All (λ s. (s.turn ≡ turn.now.turn) × (s.opening ≡ turn.now.root.opening) × (s.kinds ≡ turn.now.root.kinds)) others.items }
-    ensures first { (result.turn ≡ turn.now.turn) × (result.root ≡ Some turn.now.root) × (result.number ≡ first.number) × (result.mine ≡ first.mine) × (result.inside ≡ false) }
-    ensures kept { result.kept ≡ told_events others.items }
+    requires first { IsAtLock turn.now first }
+    requires others { All (λ s. IsAtLock turn.now s) others.items }
+    ensures first { IfOk result (λ t. (t.turn ≡ turn.now.turn) × (t.root ≡ Some turn.now.root) × (t.number ≡ first.number) × (t.mine ≡ first.mine) × (t.inside ≡ false)) }
+    ensures kept { IfOk result (λ t. t.kept ≡ told_events others.items) }
+    ensures none { first.kept ≡ [] → All (λ s. s.kept ≡ []) others.items → IsOk result }
 {
-    let UnitSeat {
-        seat: mut all,
-        number: _,
-    } = first;
+    let mut all = settled(turn, rt, first)?;
     let mut left = others;
     while let Some(other) = left.pop() {
-        let UnitSeat { seat, number: _ } = other;
+        let seat = settled(turn, rt, other)?;
         turn.gather(&mut all, seat);
     }
-    all
+    Ok(all)
 }

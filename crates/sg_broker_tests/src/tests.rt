@@ -65,7 +65,7 @@ fn ends<Rt: Wait>(rt: &Rt, alloc: Global) -> Result<Option<Core<Numbers, u64>>, 
     let mut back = Vec::new(alloc);
     back.push(zero)?;
     back.push(one)?;
-    Ok(Some(broker.close(back)))
+    Ok(Some(broker.close(rt, back)?))
 }
 
 #[test]

@@ -7,7 +7,7 @@ use Rattle.sg_base.specs.declared.scope.Scope.{Scope}
 use Rattle.sg_base.specs.List.{IsRising}
 use Rattle.sg_engine.specs.Need.{AreNeeds, NeedBlocks}
 use Rattle.sg_engine.proofs.Standing.{stands_later}
-use Rattle.sg_query.proofs.Settling.{settled_stable}
+use Rattle.sg_query.proofs.Settling.{settled_stable, settled_stay_settled}
 use Rattle.sg_query.specs.declared.query.Query.{Query}
 use Rattle.sg_query.specs.Growth.{StillBlocked}
 use Rattle.sg_query.specs.Query.{Asked}
@@ -39,7 +39,7 @@ use Rattle.sg_waits.specs.declared.shown.Shown.{Shown}
 use Rattle.sg_waits.specs.Waits.{WaitsOf, status_at, is_live, waits, needs_of, WaitsForOne, set_running}
 use Rattle.sg_waits.proofs.Tables.{all_length, all_run, others_stand}
 use Rattle.sg_core.specs.declared.ask.Ask.{Ask}
-use Rattle.sg_core.specs.declared.ask.Ask.TheVariants.{Nothing, Open, Ready}
+use Rattle.sg_core.specs.declared.ask.Ask.TheVariants.{Nothing, Open, Found, Ready}
 use Rattle.sg_core.specs.Core.{entry, IsRunnable}
 use Rattle.sg_core.proofs.Blocking.{blocks_on, blocks_back}
 use Rattle.sg_core.specs.Kept.{IsKeptAsk, ask_at, AreWaits, AreAsks, AreEnds, IsShowing, IsKept}
@@ -51,7 +51,7 @@ set_length [] i x = refl
 set_length (y ∷ xs) zero x = refl
 set_length (y ∷ xs) (suc i) x = ap suc (set_length xs i x)
 
-index_set_here : {X : Type 0} (xs : List X) (i : ℕ) (x d : X) → i < length xs → slice_index_or (slice_set xs i x) i d ≡ x
+pub index_set_here : {X : Type 0} (xs : List X) (i : ℕ) (x d : X) → i < length xs → slice_index_or (slice_set xs i x) i d ≡ x
 index_set_here [] i x d l = absurd (omega arith)
 index_set_here (y ∷ xs) zero x d l = refl
 index_set_here (y ∷ xs) (suc i) x d l = index_set_here xs i x d (omega arith)
@@ -182,6 +182,11 @@ module _ {I R D P : Type 0} (z : Setting D P) (r : RunOf D P) (e : Entry I R D P
       let later = op_follows z r ok.sound e.unit e.op s.may in
       let start = ok.starts v f.query (subst (λ (a : Asking P). IsFor a f.query) (sym h.1) refl) in
       (h.0, h.1, h.2, h.3, stands_later D (state_of r.held) (state_of (after r e).held) (asked_by z f.query) f.front (ok.sound.held).graph start later h.4)
+  later_ask ok v (Found y) h =
+      let later = op_follows z r ok.sound e.unit e.op s.may in
+      let start = ok.starts v h.0 (subst (λ (a : Asking P). IsFor a h.0) (sym h.1) refl) in
+      let stays = settled_stay_settled D (state_of r.held) (state_of (after r e).held) (asked_by z h.0) (ok.sound.held).graph start later h.2 in
+      (h.0, h.1, stays.0, (stays.1 y).1 h.3)
   later_ask ok v (Ready y) h =
       let later = op_follows z r ok.sound e.unit e.op s.may in
       let start = ok.starts v h.0 (ready_for (r.asks v) h.0 h.1) in

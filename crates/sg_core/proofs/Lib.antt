@@ -2,14 +2,17 @@ pub mod Allowing
 pub mod Answering
 pub mod Asked
 pub mod Beginning
+pub mod Beside
 pub mod Blocking
 pub mod Closing
 pub mod Ends
 pub mod Holders
 pub mod Keeping
 pub mod KeptWrites
+pub mod Later
 pub mod Moving
 pub mod Progressing
 pub mod Standing
 pub mod Steps
 pub mod Telling
+pub mod Unheld

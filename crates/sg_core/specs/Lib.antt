@@ -1,9 +1,13 @@
 pub mod Advance
+pub mod Ahead
+pub mod Beside
 pub mod Core
 pub mod Ending
+pub mod Keep
 pub mod Kept
 pub mod Law
 pub mod Over
 pub mod Searching
 pub mod Showing
+pub mod Sight
 pub mod Woken

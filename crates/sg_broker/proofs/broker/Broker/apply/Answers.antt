@@ -1,27 +1,28 @@
-use Rattle.sg_broker.proofs.Turning.{may_there, root_stays, may_unlock, seat_again, at_again, spends, tells, can_reply}
-use Rattle.std.proofs.Common.{ap}
+use Rattle.sg_broker.proofs.Seated.{told_aside, told_adds, told_reply, still_ahead}
 use Rattle.sg_broker.proofs.broker.Broker.apply.Goals as goal
 
-pub apply-reply-requires : goal.apply-reply-requires
-apply-reply-requires g c = record { may = may_there g.I.Instance.wants g.I.Instance.same_datum c.args.self.now c.self.inside.turn c.self.view_is c.args.seat.now c.seat.inside.seat c.seat.inside.number c.seat.view_is c.seat.invariant.0 c.requires.own.0 c.lock-core.result.core.value c.lock-core.ensures.root c.lock-core.ensures.own c.deref.result.now c.deref.ensures c.log-log.ensures.core c.deref_mut.result.now c.deref_mut.ensures.value c.args.op c.requires.may }
-
-pub unlock-requires-clause-root : goal.unlock-requires-clause-root
-unlock-requires-clause-root g c = root_stays g.I.Instance.wants g.I.Instance.same_datum c.args.self.now c.self.inside.turn c.self.view_is c.args.seat.now c.seat.inside.seat c.seat.inside.number c.seat.view_is c.seat.invariant.0 c.requires.own.0 c.lock-core.result.core.value c.lock-core.ensures.root c.lock-core.ensures.own c.deref.result.now c.deref.ensures c.log-log.ensures.core c.deref_mut.result.now c.deref_mut.ensures.value c.args.op c.apply-reply.new.self c.apply-reply.result c.apply-reply.ensures.ok c.apply-reply.ensures.err c.apply-reply.ensures.core
-
-pub unlock-requires-clause-entries : goal.unlock-requires-clause-entries
-unlock-requires-clause-entries g c = may_unlock g.I.Instance.wants g.I.Instance.same_datum c.args.self.now c.self.inside.turn c.self.view_is c.args.seat.now c.seat.inside.seat c.seat.inside.number c.seat.view_is c.seat.invariant.0 c.requires.own.0 c.lock-core.result.core.value c.lock-core.ensures.root c.lock-core.ensures.own c.deref.result.now c.deref.ensures c.log-log.ensures.core c.deref_mut.result.now c.deref_mut.ensures.value c.args.op c.apply-reply.new.self c.apply-reply.result c.apply-reply.ensures.ok c.apply-reply.ensures.err c.apply-reply.ensures.core c.lock-core.new.seat c.lock-core.ensures.seat
-
 pub invariant_of-seat : goal.invariant_of-seat
-invariant_of-seat g c = seat_again g.I.Instance.wants g.I.Instance.same_datum c.args.self.now c.self.inside.turn c.self.view_is c.args.seat.now c.seat.inside.seat c.seat.inside.number c.seat.view_is c.seat.invariant.0 c.requires.own.0 c.lock-core.result.core.value c.lock-core.ensures.root c.lock-core.ensures.own c.deref.result.now c.deref.ensures c.log-log.ensures.core c.deref_mut.result.now c.deref_mut.ensures.value c.args.op c.apply-reply.new.self c.apply-reply.result c.apply-reply.ensures.ok c.apply-reply.ensures.err c.apply-reply.ensures.core c.lock-core.new.seat c.lock-core.ensures.seat c.unlock.new.seat c.unlock.ensures.spent c.unlock.ensures.added c.seat.invariant.1 c.seat.invariant.2 c.seat.invariant.3
+invariant_of-seat g c =
+    let i = c.seat.inside in
+    let k = i.aside.kept in
+    let x = c.seat.invariant in
+    (x.0, x.1, x.2, x.3, x.4, told_aside g.I.Instance.wants g.I.Instance.same_datum i.seat i.number i.aside.sight i.aside.count k.events.items k.ask i.spent c.args.seat.now c.seat.view_is c.seat.invariant.5 c.args.op c.requires.may c.in-Told.reply c.keep.new.kept.events.items c.keep.new.kept.ask c.in-Told.ensures.comes)
 
-pub returns-clause-ok : goal.returns-clause-ok
-returns-clause-ok g c = tells g.I.Instance.wants g.I.Instance.same_datum c.args.self.now c.self.inside.turn c.self.view_is c.args.seat.now c.seat.inside.seat c.seat.inside.number c.seat.view_is c.seat.invariant.0 c.requires.own.0 c.lock-core.result.core.value c.lock-core.ensures.root c.lock-core.ensures.own c.deref.result.now c.deref.ensures c.log-log.ensures.core c.deref_mut.result.now c.deref_mut.ensures.value c.args.op c.apply-reply.new.self c.apply-reply.result c.apply-reply.ensures.ok c.apply-reply.ensures.err c.apply-reply.ensures.core c.lock-core.new.seat c.lock-core.ensures.seat c.unlock.new.seat c.unlock.ensures.spent c.unlock.ensures.added c.lock-core.ensures.begins
+pub apply_in_turn-requires-clause-ahead : goal.apply_in_turn-requires-clause-ahead
+apply_in_turn-requires-clause-ahead g c =
+    let i = c.seat.inside in
+    let k = i.aside.kept in
+    let x = c.in-Turn.ensures.comes in
+    still_ahead g.I.Instance.wants g.I.Instance.same_datum i.seat i.number i.aside.sight i.aside.count k.events.items k.ask i.spent c.args.seat.now c.seat.view_is c.seat.invariant.5 c.args.op c.in-Turn.op x.0 c.in-Turn.ahead x.1
 
-pub returns-clause-reply : goal.returns-clause-reply
-returns-clause-reply g c = can_reply g.I.Instance.wants g.I.Instance.same_datum c.args.self.now c.self.inside.turn c.self.view_is c.args.seat.now c.seat.inside.seat c.seat.inside.number c.seat.view_is c.seat.invariant.0 c.requires.own.0 c.lock-core.result.core.value c.lock-core.ensures.root c.lock-core.ensures.own c.deref.result.now c.deref.ensures c.log-log.ensures.core c.deref_mut.result.now c.deref_mut.ensures.value c.args.op c.apply-reply.new.self c.apply-reply.result c.apply-reply.ensures.ok c.apply-reply.ensures.err c.apply-reply.ensures.core c.lock-core.new.seat c.lock-core.ensures.seat c.unlock.new.seat c.unlock.ensures.spent c.unlock.ensures.added
+pub returns-in-Told-clause-ok : goal.returns-in-Told-clause-ok
+returns-in-Told-clause-ok g c =
+    let i = c.seat.inside in
+    let k = i.aside.kept in
+    told_adds g.I.Instance.wants g.I.Instance.same_datum i.seat i.number i.aside.sight i.aside.count k.events.items k.ask i.spent c.args.seat.now c.seat.view_is c.seat.invariant.5 c.args.op c.requires.may c.in-Told.reply c.keep.new.kept.events.items c.keep.new.kept.ask c.in-Told.ensures.comes c.in-Told.ensures.room
 
-pub returns-clause-err : goal.returns-clause-err
-returns-clause-err g c = spends g.I.Instance.wants g.I.Instance.same_datum c.args.self.now c.self.inside.turn c.self.view_is c.args.seat.now c.seat.inside.seat c.seat.inside.number c.seat.view_is c.seat.invariant.0 c.requires.own.0 c.lock-core.result.core.value c.lock-core.ensures.root c.lock-core.ensures.own c.deref.result.now c.deref.ensures c.log-log.ensures.core c.deref_mut.result.now c.deref_mut.ensures.value c.args.op c.apply-reply.new.self c.apply-reply.result c.apply-reply.ensures.ok c.apply-reply.ensures.err c.apply-reply.ensures.core c.lock-core.new.seat c.lock-core.ensures.seat c.unlock.new.seat c.unlock.ensures.spent c.unlock.ensures.added
-
-pub returns-clause-seat : goal.returns-clause-seat
-returns-clause-seat g c = (at_again g.I.Instance.wants g.I.Instance.same_datum c.args.self.now c.self.inside.turn c.self.view_is c.args.seat.now c.seat.inside.seat c.seat.inside.number c.seat.view_is c.seat.invariant.0 c.requires.own.0 c.lock-core.result.core.value c.lock-core.ensures.root c.lock-core.ensures.own c.deref.result.now c.deref.ensures c.log-log.ensures.core c.deref_mut.result.now c.deref_mut.ensures.value c.args.op c.apply-reply.new.self c.apply-reply.result c.apply-reply.ensures.ok c.apply-reply.ensures.err c.apply-reply.ensures.core c.lock-core.new.seat c.lock-core.ensures.seat c.unlock.new.seat c.unlock.ensures.spent c.unlock.ensures.added, ap (λ x. x.number) c.seat.view_is)
+pub returns-in-Told-clause-reply : goal.returns-in-Told-clause-reply
+returns-in-Told-clause-reply g c =
+    let i = c.seat.inside in
+    let k = i.aside.kept in
+    told_reply g.I.Instance.wants g.I.Instance.same_datum i.seat i.number i.aside.sight i.aside.count k.events.items k.ask i.spent c.args.seat.now c.seat.view_is c.seat.invariant.5 c.args.op c.requires.may c.in-Told.reply c.keep.new.kept.events.items c.keep.new.kept.ask c.in-Told.ensures.comes
