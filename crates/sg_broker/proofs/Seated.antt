@@ -1,6 +1,5 @@
 -- A seat that answers an operation without a turn, or goes on to one.
-use Rattle.std.proofs.Common.{◌≡◌, ℕ, ◌+◌, ◌<◌, ◌^◌, List, [], ◌∷◌, ◌++◌, inl, inr, Bool, true, refl, sym, ap, ◌∙◌, subst, Option, Some, None, Result, length, append_assoc}
-use Rattle.std.specs.Prelude.{IfOk, OnErr}
+use Rattle.std.proofs.Common.{◌≡◌, ℕ, ◌+◌, ◌<◌, ◌^◌, List, [], ◌∷◌, ◌++◌, inl, inr, Bool, refl, sym, ap, ◌∙◌, subst, Option, Some, None, length, append_assoc}
 use Rattle.sg_unit.specs.declared.entry.Entry.{Entry}
 use Rattle.sg_unit.specs.declared.op.Op.{Op}
 use Rattle.sg_unit.specs.declared.reply.Reply.{Reply}
@@ -13,9 +12,9 @@ use Rattle.sg_core.specs.declared.found_ask.FoundAsk.{FoundAsk}
 use Rattle.sg_core.specs.Core.{CoreOf, entry}
 use Rattle.sg_core.specs.Sight.{SightOf}
 use Rattle.sg_turn.specs.TurnSeat.{Known}
-use Rattle.sg_broker.specs.Aside.{IsAside, HasKindOf, AreAhead, HoldsAhead, TellsHere}
+use Rattle.sg_broker.specs.Aside.{IsAside, AreAhead, HoldsAhead, TellsHere}
 use Rattle.sg_broker.specs.Broker.{SeatOf, Adds}
-use Rattle.sg_broker.proofs.Behind.{reply_here, keeps_here, legal_here, own_here, short_here, kind_there, ahead_seen}
+use Rattle.sg_broker.proofs.Behind.{reply_here, keeps_here, legal_here, own_here, short_here, ahead_seen}
 use Rattle.sg_broker.proofs.Turning.{seat_view, seat_setting}
 
 module _ {I R D P : Type 0} (wants : P → D → Bool) (same : D → D → Bool) (t : Known (Entry I R D P) (CoreOf I R D P)) (n : ℕ) (o : Option (SightOf D)) (count : ℕ) (kept : List (Entry I R D P)) (ask : FoundAsk D) (spent : Bool)
@@ -29,9 +28,6 @@ module _ {I R D P : Type 0} (wants : P → D → Bool) (same : D → D → Bool)
   module _ (op : Op I R D P) (may : MayBy (setting_of wants same s.opening s.kinds) s.mine s.number op) where
     may_here : MayBy z (t.mine ++ kept) n op
     may_here = subst (λ (x : SeatOf I R D P). MayBy (setting_of wants same x.opening x.kinds) x.mine x.number op) (sym view) may
-
-    pub kind_here : HasKindOf o op
-    kind_here = kind_there z t.seen t.mine (t.mine ++ kept) n o count kept ask op aside may_here
 
     module _ (y : Reply I D P) (left : List (Entry I R D P)) (then : FoundAsk D) where
       aside_by : (o : Option (SightOf D)) → IsAside z t.seen t.mine n o count kept ask → TellsHere wants same o n op y kept ask left then → IsAside z t.seen t.mine n o count left then
@@ -68,37 +64,7 @@ module _ {I R D P : Type 0} (wants : P → D → Bool) (same : D → D → Bool)
       told_reply x =
           subst (λ (v : SeatOf I R D P). CanReply (run_of (setting_of wants same v.opening v.kinds) v.mine) v.number op y) view (replies_by o aside x)
 
-  -- ---- a seat that goes on to a turn
-
-  module _ (left : List (Entry I R D P)) (then : FoundAsk D) (same_kept : left ≡ kept) (same_ask : then ≡ ask) where
-    pub still_aside : IsAside z t.seen t.mine n o count left then
-    still_aside =
-        subst (λ (es : List (Entry I R D P)). IsAside z t.seen t.mine n o count es then) (sym same_kept)
-        (subst (λ (a : FoundAsk D). IsAside z t.seen t.mine n o count kept a) (sym same_ask) aside)
-
-    pub still_seat : seat_view t n left spent ≡ s
-    still_seat = ap (λ (es : List (Entry I R D P)). seat_view t n es spent) same_kept ∙ view
-
-    pub still_may : (op p : Op I R D P) → p ≡ op → MayBy (setting_of wants same s.opening s.kinds) s.mine s.number op → MayBy z (t.mine ++ left) n p
-    still_may op p e may =
-        subst (λ (x : SeatOf I R D P). MayBy (setting_of wants same x.opening x.kinds) x.mine x.number p) (sym still_seat)
-        (subst (λ (o : Op I R D P). MayBy (setting_of wants same s.opening s.kinds) s.mine s.number o) (sym e) may)
-
-    module _ {E : Type 0} (op p : Op I R D P) (e : p ≡ op) (r : Result (Reply I D P) E) (new : SeatOf I R D P) where
-      -- what the turn tells
-      pub turn_adds : IfOk r (λ y. Adds z (seat_view t n left spent) (entry n p y) new) → IfOk r (λ y. Adds (setting_of wants same s.opening s.kinds) s (entry s.number op y) new)
-      turn_adds h =
-          subst (λ (x : SeatOf I R D P). IfOk r (λ y. Adds (setting_of wants same x.opening x.kinds) x (entry x.number op y) new)) still_seat
-          (subst (λ (o : Op I R D P). IfOk r (λ y. Adds z (seat_view t n left spent) (entry n o y) new)) e h)
-
-      pub turn_replies : IfOk r (CanReply (run_of z (t.mine ++ left)) n p) → IfOk r (CanReply (run_of (setting_of wants same s.opening s.kinds) s.mine) s.number op)
-      turn_replies h =
-          subst (λ (x : SeatOf I R D P). IfOk r (CanReply (run_of (setting_of wants same x.opening x.kinds) x.mine) x.number op)) still_seat
-          (subst (λ (o : Op I R D P). IfOk r (CanReply (run_of z (t.mine ++ left)) n o)) e h)
-
-      pub turn_errs : OnErr r ((new.mine ≡ t.mine ++ left) × (new.spent ≡ true)) → OnErr r ((new.mine ≡ s.mine) × (new.spent ≡ true))
-      turn_errs h = subst (λ (x : SeatOf I R D P). OnErr r ((new.mine ≡ x.mine) × (new.spent ≡ true))) still_seat h
-
+  -- where it goes on to a turn
   pub still_ahead : (op p : Op I R D P) → p ≡ op → (a : Option (Ahead I D P)) → AreAhead wants same o op a → HoldsAhead z t.seen p a
   still_ahead op p e a x =
       ahead_seen z t.seen t.mine n o count kept ask p a aside (subst (λ (q : Op I R D P). AreAhead wants same o q a) (sym e) x)

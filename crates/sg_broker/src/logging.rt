@@ -10,7 +10,7 @@ ghost use Rattle.sg_broker.specs.Aside.{FirstOf, Gains, told_by};
 
 use crate::aside::Aside;
 use sg_base::Instance;
-use sg_core::{Ahead, Core, Sight};
+use sg_core::{Ahead, Core, Kept, Sight};
 use sg_unit::{Op, Reply};
 use std::alloc::AllocError;
 
@@ -28,7 +28,18 @@ fn seen_first<I: Instance, R: Drop>(
     }
 }
 
-/// Applies an operation of a unit behind the events that were kept, and looks at what the run holds then.
+/// Gives back the memory of events that are no longer kept, where the operation ends the unit.
+fn shrink<I: Instance, R: Drop>(kept: &mut Kept<I, R>, ends: bool)
+    ensures items { kept.new.events.items ≡ kept.old.events.items }
+    ensures ask { kept.new.ask ≡ kept.old.ask }
+{
+    if ends {
+        kept.events.shrink_to_fit();
+    }
+}
+
+/// Applies an operation of a unit behind the events that were kept, and looks at what the run holds then. An end gives back
+/// the memory of the events that were kept.
 pub(crate) fn step<I: Instance, R: Drop>(
     core: &mut Core<I, R>,
     unit: u32,
@@ -46,7 +57,9 @@ pub(crate) fn step<I: Instance, R: Drop>(
     ensures sight { FirstOf I.wants I.same_datum core.new aside.old.sight aside.new.sight }
     ensures count { aside.new.count ≡ length core.new.log }
 {
+    let ends = matches!(&op, Op::End(_));
     let reply = core.apply_behind(unit, &mut aside.kept, op, ahead);
+    shrink(&mut aside.kept, ends);
     aside.sight = seen_first(aside.sight.take(), core);
     aside.count = core.log().len();
     reply
