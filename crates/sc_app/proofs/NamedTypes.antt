@@ -74,9 +74,9 @@ circular_types_name_circular_types greatest w c ds folder ran lines d h =
 pub lines_found : CircularTypesNameCircularTypes → FolderRunsAreStuckByHeaders → (w : FolderOf) (c : JavaCore) (ds : List DiagOf) → IsFolderOf w → IsFolderRun w c → AreLinesBelow w c (length w.layout.types) ds
     → IsPhase (run is_wanted same_datum c) Stuck → IsFoundBy w c ds
 lines_found names by_headers w c ds folder ran lines stuck =
-    let (s, there, waits) = (by_headers w c folder ran).0 stuck in
-    let at = from_image (type_scope w.layout) (length w.layout.types) s there in
-    let own = lines.all at.0 at.1 (subst (λ (x : Scope). closed_in c x ≡ false) at.2 waits) in record {
+    let waiting = (by_headers w c folder ran).0 stuck in
+    let at = from_image (type_scope w.layout) (length w.layout.types) waiting.0 waiting.1 in
+    let own = lines.all at.0 at.1 (subst (λ (x : Scope). closed_in c x ≡ false) at.2 waiting.2) in record {
       ended = λ e. absurd (not_both (run is_wanted same_datum c) e stuck);
       stuck = λ k. ((own.0, own.1), names w c ds folder ran lines);
     }
