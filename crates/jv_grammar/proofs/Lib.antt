@@ -94,3 +94,4 @@ pub mod CutUnit
 pub mod BeginsExamples
 pub mod NoEffect
 pub mod Refused
+pub mod Places

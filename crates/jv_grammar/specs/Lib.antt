@@ -26,4 +26,6 @@ pub mod FileExample
 pub mod Nesting
 pub mod RefusedAt
 pub mod RefusedLaw
+pub mod Places
+pub mod PlaceLaw
 pub mod BeginsExample

@@ -41,6 +41,7 @@ ghost use Rattle.jv_grammar.specs.RefusedLaw.{
   RefusedFilesAreRefusedThere,
   RefusedPlaceIsOne,
 };
+ghost use Rattle.jv_grammar.specs.PlaceLaw.{TypesRiseByPlace, MembersRiseByPlace};
 ghost use Rattle.jv_grammar.specs.NestingLaw.{
   TypesHaveFewPairs,
   ExpressionsHaveFewPairs,
@@ -189,4 +190,11 @@ pub fn refused_files_are_refused_there()
 /// Examples: an open class, a field without a name, and a sum that is no statement, though it begins one.
 pub fn beginnings_are_told_apart()
     ensures { (a b : Identifier) (p q : ℕ) → BeginningsAreToldApart a b p q }
+{}
+
+/// Where terminals rise by place, so do the types of a file that derives from them, nested ones too, in the order in which
+/// its tree lists them, and so do its members.
+pub fn declarations_rise_by_place()
+    ensures types { TypesRiseByPlace }
+    ensures members { MembersRiseByPlace }
 {}
