@@ -17,27 +17,27 @@ use Rattle.jv_types.specs.Law.{HoldsItself, ArePassedOn}
 
 -- ---- tests of two parts
 
-and_left : (a b : Bool) → IsTrue (a && b) → IsTrue a
+pub and_left : (a b : Bool) → IsTrue (a && b) → IsTrue a
 and_left true b h = refl
 and_left false b h = h
 
-and_right : (a b : Bool) → IsTrue (a && b) → IsTrue b
+pub and_right : (a b : Bool) → IsTrue (a && b) → IsTrue b
 and_right true b h = h
 and_right false b h = absurd (cc)
 
-and_both : (a b : Bool) → IsTrue a → IsTrue b → IsTrue (a && b)
+pub and_both : (a b : Bool) → IsTrue a → IsTrue b → IsTrue (a && b)
 and_both true b h k = k
 and_both false b h k = h
 
-or_true : (a b : Bool) → IsTrue (a || b) → IsTrue a ⊎ IsTrue b
+pub or_true : (a b : Bool) → IsTrue (a || b) → IsTrue a ⊎ IsTrue b
 or_true true b h = inl refl
 or_true false b h = inr h
 
-or_left : (a b : Bool) → IsTrue a → IsTrue (a || b)
+pub or_left : (a b : Bool) → IsTrue a → IsTrue (a || b)
 or_left true b h = refl
 or_left false b h = absurd (cc)
 
-or_right : (a b : Bool) → IsTrue b → IsTrue (a || b)
+pub or_right : (a b : Bool) → IsTrue b → IsTrue (a || b)
 or_right true b h = refl
 or_right false b h = h
 
@@ -92,7 +92,7 @@ null_no_width b h k = cc
 
 -- ---- types
 
-type_by : (a b : Ty) → a.base ≡ b.base → a.dims ≡ b.dims → a ≡ b
+pub type_by : (a b : Ty) → a.base ≡ b.base → a.dims ≡ b.dims → a ≡ b
 type_by a b e d =
     ap (λ (x : TypeBase). let r : Ty = record { base = x; dims = a.dims } in r) e ∙ ap (λ (n : ℕ). let r : Ty = record { base = b.base; dims = n } in r) d
 
@@ -106,7 +106,7 @@ class_refers : (t : Ty) → IsTrue (is_class_base t.base) → IsTrue (is_referen
 class_refers t h = or_right (nat_lt 0 t.dims) (is_class_base t.base) h
 
 -- numeric types and `null` are no reference types
-numeric_no_reference : (t : Ty) → IsTrue (is_numeric t) → IsTrue (is_reference t) → ⊥
+pub numeric_no_reference : (t : Ty) → IsTrue (is_numeric t) → IsTrue (is_reference t) → ⊥
 numeric_no_reference t n r =
     let bare : t.dims ≡ 0 = eqb-true t.dims 0 (and_left (t.dims == 0) (nat_lt 0 (width t.base)) n) in
     elim (or_true (nat_lt 0 t.dims) (is_class_base t.base) r) [
@@ -114,7 +114,7 @@ numeric_no_reference t n r =
       | inr k ↦ no_width t.base k (and_right (t.dims == 0) (nat_lt 0 (width t.base)) n)
     ]
 
-null_no_reference : (t : Ty) → IsTrue (is_null t) → IsTrue (is_reference t) → ⊥
+pub null_no_reference : (t : Ty) → IsTrue (is_null t) → IsTrue (is_reference t) → ⊥
 null_no_reference t n r =
     let bare : t.dims ≡ 0 = eqb-true t.dims 0 (and_left (t.dims == 0) (is_null_base t.base) n) in
     elim (or_true (nat_lt 0 t.dims) (is_class_base t.base) r) [
@@ -129,14 +129,14 @@ null_no_numeric t n w =
 -- ---- subtypes in words
 
 -- an array with more brackets than `Object`, or a class below another with as many
-Below : List Scope → Scope → Ty → Ty → Type 0
+unfoldable pub Below : List Scope → Scope → Ty → Ty → Type 0
 Below up object s t = (t.dims < s.dims × (t.base ≡ Class object)) ⊎ (s.dims ≡ t.dims × IsTrue (is_class_base s.base) × ((c : Scope) × (t.base ≡ Class c) × Contains up c))
 
 cond_cases : (test a b : Bool) → IsTrue (cond test a b) → (IsTrue test × IsTrue a) ⊎ IsTrue b
 cond_cases true a b h = inl (refl, h)
 cond_cases false a b h = inr h
 
-below_from : (up : List Scope) (object : Scope) (s t : Ty) → IsTrue (is_subtype up object s t) → Below up object s t
+pub below_from : (up : List Scope) (object : Scope) (s t : Ty) → IsTrue (is_subtype up object s t) → Below up object s t
 unfolding Below
 below_from up object s t h =
     elim (cond_cases (nat_lt t.dims s.dims) (is_class object t.base) ((s.dims == t.dims) && (is_class_base s.base && is_above up t.base)) h) [
@@ -158,7 +158,7 @@ second_case : (test a b : Bool) → test ≡ false → IsTrue b → IsTrue (cond
 second_case true a b h k = absurd (cc)
 second_case false a b h k = k
 
-below_to : (up : List Scope) (object : Scope) (s t : Ty) → Below up object s t → IsTrue (is_subtype up object s t)
+pub below_to : (up : List Scope) (object : Scope) (s t : Ty) → Below up object s t → IsTrue (is_subtype up object s t)
 unfolding Below
 below_to up object s t (inl k) = first_case (nat_lt t.dims s.dims) (is_class object t.base) _ (lt-ltb t.dims s.dims k.0) (is_the_class object t.base k.1)
 below_to up object s t (inr k) =
@@ -207,10 +207,10 @@ below_again up_s up_t object s u own p (inr m) =
 -- ---- assignment in words
 
 -- why one type may be assigned to another where neither is bad
-Goes : List Scope → Scope → Ty → Ty → Type 0
+unfoldable pub Goes : List Scope → Scope → Ty → Ty → Type 0
 Goes up object s t = (s ≡ t) ⊎ (IsTrue (widens s t) ⊎ ((IsTrue (is_null s) × IsTrue (is_reference t)) ⊎ Below up object s t))
 
-goes_from : (up : List Scope) (object : Scope) (s t : Ty) → IsTrue (is_type s t || (widens s t || ((is_null s && is_reference t) || is_subtype up object s t))) → Goes up object s t
+pub goes_from : (up : List Scope) (object : Scope) (s t : Ty) → IsTrue (is_type s t || (widens s t || ((is_null s && is_reference t) || is_subtype up object s t))) → Goes up object s t
 unfolding Goes
 goes_from up object s t h =
     elim (or_true (is_type s t) (widens s t || ((is_null s && is_reference t) || is_subtype up object s t)) h) [
@@ -224,7 +224,7 @@ goes_from up object s t h =
       ]
     ]
 
-goes_to : (up : List Scope) (object : Scope) (s t : Ty) → IsTrue (widens s t) ⊎ ((IsTrue (is_null s) × IsTrue (is_reference t)) ⊎ Below up object s t) → IsTrue (is_assignable up object s t)
+pub goes_to : (up : List Scope) (object : Scope) (s t : Ty) → IsTrue (widens s t) ⊎ ((IsTrue (is_null s) × IsTrue (is_reference t)) ⊎ Below up object s t) → IsTrue (is_assignable up object s t)
 goes_to up object s t g =
     or_right (is_bad s || is_bad t) _ (or_right (is_type s t) _ (reasons g))
   where
@@ -235,7 +235,7 @@ goes_to up object s t g =
 
 -- ---- two steps
 
-widens_both : (s t : Ty) → IsTrue (widens s t) → IsTrue (is_numeric s) × IsTrue (is_numeric t) × (width s.base < width t.base)
+pub widens_both : (s t : Ty) → IsTrue (widens s t) → IsTrue (is_numeric s) × IsTrue (is_numeric t) × (width s.base < width t.base)
 widens_both s t h =
     let k : IsTrue (is_numeric t && nat_lt (width s.base) (width t.base)) = and_right (is_numeric s) (is_numeric t && nat_lt (width s.base) (width t.base)) h in (
       and_left (is_numeric s) (is_numeric t && nat_lt (width s.base) (width t.base)) h,

@@ -1,2 +1,3 @@
 pub mod BothWays
 pub mod Converting
+pub mod Related

@@ -1,4 +1,5 @@
 pub mod Conversion
 pub mod Law
 pub mod Operators
+pub mod Relations
 pub mod Side

@@ -1,6 +1,6 @@
 //! Laws of the tables, each the contract of a function that does nothing.
 
-ghost use Rattle.jv_types.specs.Law.{AssignableIsReflexive, AssignableIsTransitive, CastableIsSymmetric, PromotionIsCommutative, PromotionIsAssociative};
+ghost use Rattle.jv_types.specs.Law.{AssignableIsReflexive, AssignableIsTransitive, AssignmentIsTested, CastableIsSymmetric, CastsAreTested, PromotionIsAssociative, PromotionIsCommutative, SubtypesAreTested};
 
 /// A type may be assigned to itself, and to all that what it may be assigned to may be assigned to, unless that is bad: where each
 /// class is handed in among its own supertypes, and those of a type are among those of what is below it.
@@ -18,4 +18,12 @@ pub fn casts_go_both_ways()
 pub fn promotion_is_a_join()
     ensures commutative { PromotionIsCommutative }
     ensures associative { PromotionIsAssociative }
+{}
+
+/// The tests of subtypes, assignment and casts are the rules of the language (JLS 4.10, 5.2, 5.5): each holds of all types of which
+/// its rules do, and of no others.
+pub fn tests_are_the_relations()
+    ensures subtype { SubtypesAreTested }
+    ensures assignable { AssignmentIsTested }
+    ensures castable { CastsAreTested }
 {}
