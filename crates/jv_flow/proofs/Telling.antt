@@ -108,11 +108,9 @@ mutual
   else_reached no_else n p = elim p [ ]
   else_reached (otherwise x) n p = reached true x n p
 
-module _ (names : List (List ℕ)) (file : ℕ) (m : MethodTree) (xs : StmtTrees) (body : m.body ≡ Some xs) (shaped : AreShapedStmts xs) (quiet : method_flow names file m ≡ []) where
-  none : (d : DiagOf) → IsFlowFault names file xs (gives_value m.result.base) m.name d → ⊥
-  none d h =
-      let same : flow_faults names file xs (gives_value m.result.base) m.name ≡ [] = ap (λ o. optional_flow_faults names file o (gives_value m.result.base) m.name) (sym body) ∙ quiet in
-      none_in d (subst (λ (ds : List DiagOf). Contains ds d) same ((faults_told names file xs (gives_value m.result.base) m.name d).1 h))
+module _ (names : List (List ℕ)) (file : ℕ) (xs : StmtTrees) (must : Bool) (i : Ident) (shaped : AreShapedStmts xs) (quiet : flow_faults names file xs must i ≡ []) where
+  none : (d : DiagOf) → IsFlowFault names file xs must i d → ⊥
+  none d h = none_in d (subst (λ (ds : List DiagOf). Contains ds d) quiet ((faults_told names file xs must i d).1 h))
 
   quiet_places : (a : ℕ) → Contains (all_faults true xs) a → ⊥
   quiet_places a c = none (unreachable_at file a) (inl (a, ((places_told xs).exact a).0 ((order_same (all_faults true xs) a).1 c), refl))
@@ -120,5 +118,9 @@ module _ (names : List (List ℕ)) (file : ℕ) (m : MethodTree) (xs : StmtTrees
   pub each_executed : (p : PlaceInAll xs) → SomeRunExecutes xs p
   each_executed p = ((rules_tell_runs xs shaped).1 p).0 (all_reached true xs quiet_places p)
 
-  pub none_falls_off : gives_value m.result.base ≡ true → SomeRunFallsOff xs → ⊥
-  none_falls_off must h = none (missing_return_in names file m.name) (inr (must, (rules_tell_runs xs shaped).0.1 h, refl))
+  pub none_falls_off : must ≡ true → SomeRunFallsOff xs → ⊥
+  none_falls_off wanted h = none (missing_return_in names file i) (inr (wanted, (rules_tell_runs xs shaped).0.1 h, refl))
+
+-- nothing is wrong with the statements of the body of a method with which nothing is wrong
+pub body_quiet : (names : List (List ℕ)) (file : ℕ) (m : MethodTree) (xs : StmtTrees) → m.body ≡ Some xs → method_flow names file m ≡ [] → flow_faults names file xs (gives_value m.result.base) m.name ≡ []
+body_quiet names file m xs body quiet = ap (λ o. optional_flow_faults names file o (gives_value m.result.base) m.name) (sym body) ∙ quiet

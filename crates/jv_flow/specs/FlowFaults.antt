@@ -5,7 +5,7 @@ use Rattle.jv_diag.specs.Plain.{DiagOf, diagnostic, fault_if}
 use Rattle.jv_tree.specs.declared.name.Ident.{Ident}
 use Rattle.jv_tree.specs.TypeTree.{BaseTree, void}
 use Rattle.jv_tree.specs.StmtTree.{StmtTrees}
-use Rattle.jv_tree.specs.DeclTree.{MethodTree, CtorTree}
+use Rattle.jv_tree.specs.DeclTree.{MethodTree, CtorTree, MemberTree, nested, field, method, ctor}
 use Rattle.jv_flow.specs.Fault.{IsFaultPlace}
 use Rattle.jv_flow.specs.FaultList.{fault_places}
 use Rattle.jv_flow.specs.Reachable.{CompletesNormally, IsReachable, all_complete}
@@ -53,3 +53,10 @@ method_flow names file m = optional_flow_faults names file m.body (gives_value m
 -- those of a constructor in a file, which has no value to give
 abbrev pub ctor_flow : List (List ℕ) → ℕ → CtorTree → List DiagOf
 ctor_flow names file c = flow_faults names file c.body false c.name
+
+-- those of a member in a file; nested types and fields have no body
+abbrev pub declared_flow : List (List ℕ) → ℕ → MemberTree → List DiagOf
+declared_flow names file (nested d) = []
+declared_flow names file (field ms t vs) = []
+declared_flow names file (method m) = method_flow names file m
+declared_flow names file (ctor k) = ctor_flow names file k

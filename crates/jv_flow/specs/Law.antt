@@ -3,12 +3,12 @@ use Rattle.std.specs.Prelude.{◌≡◌, ℕ, ◌↔◌, Bool, true, List, [], S
 use Rattle.std.specs.List.{Contains}
 use Rattle.jv_diag.specs.Plain.{DiagOf}
 use Rattle.jv_tree.specs.declared.name.Ident.{Ident}
-use Rattle.jv_tree.specs.DeclTree.{MethodTree}
+use Rattle.jv_tree.specs.DeclTree.{MethodTree, CtorTree}
 use Rattle.jv_tree.specs.StmtTree.{StmtTrees}
 use Rattle.jv_tree.specs.Shaped.{AreShapedStmts}
 use Rattle.jv_flow.specs.Fault.{AreFaultPlaces}
 use Rattle.jv_flow.specs.FaultList.{fault_places}
-use Rattle.jv_flow.specs.FlowFaults.{flow_faults, gives_value, method_flow, IsFlowFault}
+use Rattle.jv_flow.specs.FlowFaults.{ctor_flow, flow_faults, gives_value, method_flow, IsFlowFault}
 use Rattle.jv_flow.specs.Place.{PlaceInAll}
 use Rattle.jv_flow.specs.Run.{FallsOff, Executes}
 use Rattle.jv_flow.specs.Reachable.{CompletesNormally, IsReachable}
@@ -43,3 +43,8 @@ FlowFaultsAreTold = (names : List (List ℕ)) (file : ℕ) (xs : StmtTrees) (mus
 abbrev pub AcceptedMethodsReturn : Type 0
 AcceptedMethodsReturn = (names : List (List ℕ)) (file : ℕ) (m : MethodTree) (xs : StmtTrees) → m.body ≡ Some xs → AreShapedStmts xs → method_flow names file m ≡ []
     → ((p : PlaceInAll xs) → SomeRunExecutes xs p) × (gives_value m.result.base ≡ true → SomeRunFallsOff xs → ⊥)
+
+-- each statement of a constructor without such diagnostics is executed by some run
+abbrev pub AcceptedCtorsRun : Type 0
+AcceptedCtorsRun = (names : List (List ℕ)) (file : ℕ) (k : CtorTree) → AreShapedStmts k.body → ctor_flow names file k ≡ []
+    → (p : PlaceInAll k.body) → SomeRunExecutes k.body p

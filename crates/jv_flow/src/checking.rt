@@ -3,14 +3,14 @@
 ghost use Rattle.std.specs.Prelude.{◌≡◌, [], ◌++◌, map, slice_index_or, true, IfOk, OnOk};
 ghost use Rattle.jv_tree.specs.TypeTree.{base_tree};
 ghost use Rattle.jv_tree.specs.StmtTree.{stmt_trees};
-ghost use Rattle.jv_tree.specs.DeclTree.{ctor_tree, method_tree};
-ghost use Rattle.jv_flow.specs.FlowFaults.{ctor_flow, flow_faults, gives_value, method_flow, unreachable_at, unreachable_in};
+ghost use Rattle.jv_tree.specs.DeclTree.{ctor_tree, member_tree, method_tree};
+ghost use Rattle.jv_flow.specs.FlowFaults.{ctor_flow, declared_flow, flow_faults, gives_value, method_flow, unreachable_at, unreachable_in};
 ghost use Rattle.jv_flow.specs.Reachable.{all_complete};
 
 use crate::codes::{MISSING_RETURN, UNREACHABLE_STATEMENT};
 use crate::flowing::flow;
 use jv_diag::DiagList;
-use jv_tree::{Base, Ctor, Ident, Method, NameId, Names, Stmt};
+use jv_tree::{Base, Ctor, Ident, Member, Method, NameId, Names, Stmt};
 use std::alloc::{AllocError, Global};
 
 /// Whether a method whose result has this type, without its brackets, gives a value.
@@ -118,4 +118,23 @@ pub fn check_ctor_flow(
     ensures { IfOk result (λ ds. ds ≡ ctor_flow names.now file (ctor_tree ctor.now)) }
 {
     check_body(alloc, names, file, &ctor.body, false, ctor.name)
+}
+
+/// What is wrong with the flow of control through the body of a member in a file, as `check_method_flow` and `check_ctor_flow`
+/// give it (JLS 8.4.7, 14.21). Nothing is wrong with a member without a body: a nested type, whose own members are not
+/// looked at, fields, and a method that ends with `;`. It takes time in the number of statements, and stack in their nesting.
+pub fn check_flow(
+    alloc: Global,
+    names: &Names,
+    file: u32,
+    member: &Member,
+) -> Result<DiagList, AllocError>
+    ensures { IfOk result (λ ds. ds ≡ declared_flow names.now file (member_tree member.now)) }
+{
+    match member {
+        Member::Nested(_) => Ok(DiagList::empty(alloc)),
+        Member::Field(_, _, _) => Ok(DiagList::empty(alloc)),
+        Member::Method(method) => check_method_flow(alloc, names, file, method),
+        Member::Ctor(ctor) => check_ctor_flow(alloc, names, file, ctor),
+    }
 }

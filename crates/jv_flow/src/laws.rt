@@ -1,10 +1,10 @@
 //! What holds of all bodies.
 
 ghost use Rattle.jv_flow.specs.Example.{RunsAreToldApart};
-ghost use Rattle.jv_flow.specs.Law.{AcceptedMethodsReturn, FaultPlacesAreOne, FaultPlacesAreTold, FlowFaultsAreTold, RulesTellRuns};
+ghost use Rattle.jv_flow.specs.Law.{AcceptedCtorsRun, AcceptedMethodsReturn, FaultPlacesAreOne, FaultPlacesAreTold, FlowFaultsAreTold, RulesTellRuns};
 
-/// A body completes normally exactly where some run falls off its end, and a statement of it is reachable exactly where some
-/// run executes it (JLS 14.21).
+/// Where the statements of a body have the shape of the grammar, it completes normally exactly where some run falls off its end, and
+/// a statement of it is reachable exactly where some run executes it (JLS 14.21).
 pub fn rules_tell_runs()
     ensures { RulesTellRuns }
 {}
@@ -25,8 +25,10 @@ pub fn flow_faults_are_told()
     ensures { FlowFaultsAreTold }
 {}
 
-/// Where nothing is wrong with the flow of a method's body, some run executes each of its statements, and if the method gives a
-/// value, no run falls off the end of its body (JLS 8.4.7, 14.21).
+/// Where the statements of a method or a constructor have the shape of the grammar and nothing is wrong with the flow of its body,
+/// each of them is executed by some run; and if it is a method that gives a value, no run falls off the end of its body (JLS 8.4.7,
+/// 14.21).
 pub fn accepted_methods_return()
-    ensures { AcceptedMethodsReturn }
+    ensures methods { AcceptedMethodsReturn }
+    ensures ctors { AcceptedCtorsRun }
 {}

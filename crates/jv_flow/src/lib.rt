@@ -15,7 +15,7 @@ mod outcome;
 mod place_list;
 mod walking;
 
-pub use checking::{check_ctor_flow, check_method_flow};
+pub use checking::{check_ctor_flow, check_flow, check_method_flow};
 pub use flowing::flow;
 pub use outcome::Flow;
 pub use place_list::PlaceList;

@@ -2,9 +2,12 @@
 
 use crate::build::body_of;
 use jv_diag::{Diag, DiagList};
-use jv_flow::{check_ctor_flow, check_method_flow, flow};
-use jv_tree::nodes::{constructor, empty, method, return_from, this, type_ref};
-use jv_tree::{Base, Ident, Method, Mods, NameId, Names, Stmt, StmtKind};
+use jv_flow::{check_ctor_flow, check_flow, check_method_flow, flow};
+use jv_tree::nodes::{
+    class_or_interface, constructor, constructor_member, empty, field_member, method,
+    method_member, nested, return_from, this, type_ref,
+};
+use jv_tree::{Base, Ctor, Ident, Member, Method, Mods, NameId, Names, Stmt, StmtKind};
 use std::alloc::{AllocError, Global};
 use std::test::Fail;
 
@@ -86,13 +89,23 @@ fn name() -> Ident {
     }
 }
 
+/// No modifiers.
+fn no_words(alloc: Global) -> Mods {
+    Mods {
+        words: Vec::new(alloc),
+    }
+}
+
 /// A method of that name, with a value of type `int` or without one.
 fn method_with(alloc: Global, value: bool, body: Option<Vec<Stmt>>) -> Method {
-    let words = Mods {
-        words: Vec::new(alloc),
-    };
     let base = if value { Base::Int } else { Base::Void };
-    method(words, type_ref(0, base, 0), name(), Vec::new(alloc), body)
+    method(
+        no_words(alloc),
+        type_ref(0, base, 0),
+        name(),
+        Vec::new(alloc),
+        body,
+    )
 }
 
 /// Whether diagnostics stand at these places of the file with these codes, and no others.
@@ -143,13 +156,15 @@ fn texts_name_the_method(rt: HostRuntime) -> Result<(), Fail> {
     Ok(())
 }
 
+/// A constructor of that name with this body.
+fn ctor_with(alloc: Global, body: Vec<Stmt>) -> Ctor {
+    constructor(no_words(alloc), name(), Vec::new(alloc), None, body)
+}
+
 /// What is wrong with a constructor that has this body.
 fn of_ctor(alloc: Global, text: &str) -> Result<DiagList, AllocError> {
-    let words = Mods {
-        words: Vec::new(alloc),
-    };
     let body = body_of(alloc, text)?;
-    let declared = constructor(words, name(), Vec::new(alloc), None, body);
+    let declared = ctor_with(alloc, body);
     let names = Names::new(alloc);
     check_ctor_flow(alloc, &names, FILE, &declared)
 }
@@ -160,6 +175,54 @@ fn constructors_are_checked(rt: HostRuntime) -> Result<(), Fail> {
     assert!(rt; are_at(whole.as_slice(), &[]));
     let broken = of_ctor(rt.alloc(), "r;")?;
     assert!(rt; are_at(broken.as_slice(), &[(1, 60)]));
+    Ok(())
+}
+
+/// A body with an unreachable statement, which completes.
+const BROKEN: &str = "wn;";
+
+/// A method with that body that has to give a value.
+fn broken_method(alloc: Global) -> Result<Member, AllocError> {
+    let body = body_of(alloc, BROKEN)?;
+    Ok(method_member(method_with(alloc, true, Some(body))))
+}
+
+/// A constructor with that body.
+fn broken_ctor(alloc: Global) -> Result<Member, AllocError> {
+    let body = body_of(alloc, BROKEN)?;
+    Ok(constructor_member(ctor_with(alloc, body)))
+}
+
+/// A class with that method.
+fn broken_class(alloc: Global) -> Result<Member, AllocError> {
+    let mut members = Vec::new(alloc);
+    members.push(broken_method(alloc)?)?;
+    Ok(nested(class_or_interface(
+        name(),
+        no_words(alloc),
+        false,
+        Vec::new(alloc),
+        Vec::new(alloc),
+        members,
+    )))
+}
+
+/// Whether a member of a file has these diagnostics, and no others.
+fn shows(alloc: Global, member: Member, wanted: &[(u32, u8)]) -> Result<bool, AllocError> {
+    let names = Names::new(alloc);
+    let found = check_flow(alloc, &names, FILE, &member)?;
+    Ok(are_at(found.as_slice(), wanted))
+}
+
+#[test]
+fn members_of_each_kind_are_checked(rt: HostRuntime) -> Result<(), Fail> {
+    let alloc = rt.alloc();
+    assert!(rt; shows(alloc, broken_method(alloc)?, &[(2, 60), (NAME_AT, 61)])?);
+    assert!(rt; shows(alloc, method_member(method_with(alloc, true, None)), &[])?);
+    assert!(rt; shows(alloc, broken_ctor(alloc)?, &[(2, 60)])?);
+    assert!(rt; shows(alloc, broken_class(alloc)?, &[])?);
+    let field = field_member(no_words(alloc), type_ref(0, Base::Int, 0), Vec::new(alloc));
+    assert!(rt; shows(alloc, field, &[])?);
     Ok(())
 }
 
