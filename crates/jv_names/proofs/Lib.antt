@@ -15,5 +15,6 @@ pub mod Listed
 pub mod ReadBounds
 pub mod ReadSteps
 pub mod ResultSteps
+pub mod ChosenSteps
 pub mod SuperclassSteps
 pub mod InstanceSteps

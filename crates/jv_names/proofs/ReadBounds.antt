@@ -1,5 +1,5 @@
 -- What is read beside names asks queries of the layout, and ends with what the layout has, whatever the answers.
-use Rattle.std.proofs.Common.{◌≡◌, ◌==◌, ℕ, Bool, true, false, cond, IfSome, List, [], ◌∷◌, ◌++◌, map, Option, Some, None, refl, arith}
+use Rattle.std.proofs.Common.{◌≡◌, ◌==◌, ℕ, Bool, true, false, cond, IfSome, List, [], ◌∷◌, ◌++◌, ◌||◌, map, Option, Some, None, refl, arith}
 use Rattle.std.specs.List.{All, Contains, filter}
 use Rattle.std.proofs.lemmas.List.Elements.{All-nil, All-cons, All-head, All-tail, All-push, All-weaker, All-contains_itself}
 use Rattle.sg_base.specs.declared.scope.Scope.{Scope}
@@ -8,7 +8,7 @@ use Rattle.sg_query.specs.declared.answer.Answer.{Answer}
 use Rattle.sg_query.specs.declared.answer.Answer.TheVariants.{Paths, TooMany as TooManyPaths}
 use Rattle.sg_query.specs.declared.found.Found.{Found}
 use Rattle.sg_query.specs.declared.query.Query.{Query}
-use Rattle.sg_reading.specs.Reading.{done, AllAsked, AllEnds}
+use Rattle.sg_reading.specs.Reading.{done, and_then, AllAsked, AllEnds}
 use Rattle.sg_reading.proofs.Asking.{any_ends, AllAsked-more, and_then-asked, and_then-ends}
 use Rattle.jv_instance.specs.declared.datum.JavaDatum.{JavaDatum}
 use Rattle.jv_instance.specs.declared.datum.JavaDatum.TheVariants.{Package, TypeName as TypeDatum, Member, Signature}
@@ -17,6 +17,7 @@ use Rattle.jv_instance.specs.declared.pred.JavaPred.{JavaPred}
 use Rattle.jv_instance.specs.declared.ty.Ty.{Ty}
 use Rattle.jv_instance.specs.declared.type_base.TypeBase.{TypeBase}
 use Rattle.jv_instance.specs.declared.type_base.TypeBase.TheVariants.{Boolean, Char, Int, Long, Class, Null, Void, Bad}
+use Rattle.jv_instance.specs.Types.{is_bad}
 use Rattle.jv_layout.specs.Fits.{fits, is_type}
 use Rattle.jv_layout.specs.Folder.{LayoutOf}
 use Rattle.jv_layout.specs.Linked.{IsLinked}
@@ -32,15 +33,16 @@ use Rattle.jv_names.specs.declared.meaning.Meaning.{Meaning}
 use Rattle.jv_names.specs.declared.meaning.Meaning.TheVariants.{One, Nothing, Ambiguous, TooMany}
 use Rattle.jv_names.specs.Access.{has_super, some_body}
 use Rattle.jv_names.specs.Bodies.{header_bodies}
-use Rattle.jv_names.specs.Bounds.{IsNameQuery, IsLayoutQuery, IsListed, IsTypeScope, AreTypes, IsMemberScope, IsBaseIn, IsTyIn, IsReadIn, IsMeant, IsReferenceIn, MeansOnly, SignaturesAskIn, CtorsAskIn, SupersAskIn, ResultsAskIn, SuperclassesAskIn, InstancesAskIn, InstanceBodiesAreTypes}
+use Rattle.jv_names.specs.Bounds.{IsNameQuery, IsLayoutQuery, IsListed, IsTypeScope, AreTypes, IsMemberScope, IsBaseIn, IsTyIn, IsReadIn, IsMeant, IsResolvedIn, MeansOnly, SignaturesAskIn, CtorsAskIn, SupersAskIn, ResultsAskIn, SuperclassesAskIn, InstancesAskIn, InstanceBodiesAreTypes}
+use Rattle.jv_names.specs.Chosen.{fits_all, fits_or_bad}
 use Rattle.jv_names.specs.Ends.{counted_ends}
 use Rattle.jv_names.specs.Instances.{instances_from, has_enclosing}
 use Rattle.jv_names.specs.Members.{find_ends}
-use Rattle.jv_names.specs.Read.{SignatureOf, base_in, ty_in, signature_in, one_signature, answer_signature, signature_of, answer_supers, supers_of, base_fits, result_fits, one_ctor, answer_ctor, ctor_of}
-use Rattle.jv_names.specs.Reference.{reference}
+use Rattle.jv_names.specs.Names.{type_name}
+use Rattle.jv_names.specs.Read.{SignatureOf, base_in, ty_in, signature_in, one_signature, answer_signature, signature_of, answer_supers, supers_of, is_under_object, base_fits, result_fits, one_ctor, answer_ctor, ctor_of}
 use Rattle.jv_names.specs.Replies.{Rule}
 use Rattle.jv_names.specs.Superclass.{meant_superclass, named_superclass, superclass}
-use Rattle.jv_names.proofs.Bounds.{counted_end, file_is_one, header_bodies_types, object_is_type, reference_stays}
+use Rattle.jv_names.proofs.Bounds.{counted_end, file_is_one, header_bodies_types, object_is_type, type_name_stays}
 use Rattle.jv_names.proofs.Listed.{start_is_listed, type_is_listed}
 
 -- ---- what answers tell
@@ -174,7 +176,9 @@ module _ (l : LayoutOf) (count : ℕ) where
   -- ---- results
 
   base_asks : (s t : Ty) (a b : TypeBase) → IsBaseIn l a → AllAsked Asked (base_fits l s t a b)
-  base_asks s t (Class a) (Class b) h = and_then-asked Asked (supers_of l a) (λ up. done (is_subtype up (object_scope l) s t)) (supers_asks a (type_is_listed l a h)) (λ up. tt)
+  base_asks s t (Class a) (Class b) h =
+      cond_asked (is_under_object l a b) (done true) (and_then (supers_of l a) (λ up. done (is_subtype up (object_scope l) s t))) tt
+      (and_then-asked Asked (supers_of l a) (λ up. done (is_subtype up (object_scope l) s t)) (supers_asks a (type_is_listed l a h)) (λ up. tt))
   base_asks s t (Class a) Boolean h = tt
   base_asks s t (Class a) Char h = tt
   base_asks s t (Class a) Int h = tt
@@ -196,19 +200,29 @@ module _ (l : LayoutOf) (count : ℕ) where
       cond_asked (same_type s t) (done true) _ tt
       (cond_asked _ _ (done false) (cond_asked (s.dims == t.dims) (base_fits l s t s.base t.base) (done (is_subtype [] (object_scope l) s t)) (base_asks s t s.base t.base h) tt) tt)
 
+  pub fits_or_bad_asks : (s t : Ty) → IsTyIn l s → AllAsked Asked (fits_or_bad l s t)
+  unfolding fits_or_bad
+  fits_or_bad_asks s t h = cond_asked (is_bad s || is_bad t) (done true) (result_fits l s t) tt (result_asks s t h)
+
+  pub fits_all_asks : (t : Ty) (us : List Ty) → IsTyIn l t → AllAsked Asked (fits_all l t us)
+  fits_all_asks t [] h = tt
+  fits_all_asks t (u ∷ us) h =
+      and_then-asked Asked (fits_or_bad l t u) (λ ok. cond ok (fits_all l t us) (done false)) (fits_or_bad_asks t u h)
+      (λ ok. cond_asked ok (fits_all l t us) (done false) (fits_all_asks t us h) tt)
+
   -- ---- superclasses and enclosing instances
 
   module _ (c : Scope) (linked : IsLinked l) (is : IsTypeScope l c) where
     extended_asks : (ids : List Ident) → IsNumberedName count ids → AllAsked Asked (named_superclass l c ids)
     extended_asks ids numbered =
-        and_then-asked Asked (reference l (file_of l c) (header_bodies l c) ids) (λ r. done (meant_superclass l r.meaning))
-        (AllAsked-more (IsNameQuery l count) Asked (reference l (file_of l c) (header_bodies l c) ids) name_asked (reference_stays l count (file_of l c) (header_bodies l c) ids (file_is_one l linked c is) (header_bodies_types l linked c is) numbered).asks)
+        and_then-asked Asked (type_name l (file_of l c) (header_bodies l c) ids) (λ r. done (meant_superclass l r.meaning))
+        (AllAsked-more (IsNameQuery l count) Asked (type_name l (file_of l c) (header_bodies l c) ids) name_asked (type_name_stays l count (file_of l c) (header_bodies l c) ids (file_is_one l linked c is) (header_bodies_types l linked c is) numbered).asks)
         (λ r. tt)
 
     extended_found : (ids : List Ident) → IsNumberedName count ids → AllEnds (IsTypeScope l) (named_superclass l c ids)
     extended_found ids numbered =
-        and_then-ends (IsReferenceIn l TypeName) (IsTypeScope l) (reference l (file_of l c) (header_bodies l c) ids) (λ r. done (meant_superclass l r.meaning))
-        (reference_stays l count (file_of l c) (header_bodies l c) ids (file_is_one l linked c is) (header_bodies_types l linked c is) numbered).ends
+        and_then-ends (IsResolvedIn l TypeName) (IsTypeScope l) (type_name l (file_of l c) (header_bodies l c) ids) (λ r. done (meant_superclass l r.meaning))
+        (type_name_stays l count (file_of l c) (header_bodies l c) ids (file_is_one l linked c is) (header_bodies_types l linked c is) numbered).ends
         (λ r means. superclass_is_type l r.meaning (object_is_type l c is) means.meaning)
 
     pub superclass_asks : (ns : List (List Ident)) → AreNumberedNames count ns → AllAsked Asked (superclass l c ns)

@@ -13,7 +13,7 @@ use Rattle.sg_query.specs.declared.found.Found.{Found}
 use Rattle.sg_query.specs.declared.query.Query.{Query}
 use Rattle.sg_reading.specs.declared.stop.Stop.{Stop}
 use Rattle.sg_reading.specs.declared.stop.Stop.TheVariants.{NoReply}
-use Rattle.sg_reading.specs.Reading.{done}
+use Rattle.sg_reading.specs.Reading.{done, and_then}
 use Rattle.sg_reading.specs.Stop.{Reads}
 use Rattle.sg_reading.proofs.Steps.{ask_ok, ask_err, done_reads, reading_steps}
 use Rattle.jv_instance.specs.declared.datum.JavaDatum.{JavaDatum}
@@ -27,8 +27,8 @@ use Rattle.jv_types.specs.Conversion.{is_subtype, is_class, is_class_base, is_ab
 use Rattle.jv_names.specs.declared.counts.Counts.TheVariants.{Supertypes}
 use Rattle.jv_names.specs.declared.kinds.TheConstants.{SUPERS}
 use Rattle.jv_names.specs.Ends.{is_counted, path_end, counted_ends, has_end}
-use Rattle.jv_names.specs.Replies.{for_any}
-use Rattle.jv_names.specs.Read.{answer_supers, with_object, supers_of, base_fits}
+use Rattle.jv_names.specs.Replies.{Rule, for_any}
+use Rattle.jv_names.specs.Read.{answer_supers, base_fits, is_under_object, supers_of, with_object}
 
 abbrev Replies : Type 0
 Replies = Query JavaPred → Option (Answer JavaDatum)
@@ -63,9 +63,11 @@ module _ (l : LayoutOf) (b : Scope) where
   with_on true object up x h = list_any-append (is_scope b) up (object ∷ []) ∙ (ap (λ (y : Bool). y || (is_scope b object || false)) h ∙ ap (λ (y : Bool). x || y) (sole (is_scope b object)))
   with_on false object up x h = h ∙ sym (sole x)
 
-  -- what is known of a class above another one
-  above_by : (c : Scope) (a : Answer JavaDatum) → list_any (is_scope b) (with_object l c (answer_supers l a)) ≡ (has_end l Supertypes b a || (is_interface_of l c && is_scope b (object_scope l)))
-  above_by c a = with_on (is_interface_of l c) (object_scope l) (answer_supers l a) (has_end l Supertypes b a) (among_supers a)
+  -- what is known of a class above another one, where it is not `Object` above an interface
+  above_by : (c : Scope) (a : Answer JavaDatum) → is_under_object l c b ≡ false → list_any (is_scope b) (with_object l c (answer_supers l a)) ≡ has_end l Supertypes b a
+  above_by c a apart =
+      with_on (is_interface_of l c) (object_scope l) (answer_supers l a) (has_end l Supertypes b a) (among_supers a)
+      ∙ (ap (λ (x : Bool). has_end l Supertypes b a || x) apart ∙ sole (has_end l Supertypes b a))
 
 lt_itself : (n : ℕ) → nat_lt n n ≡ false
 lt_itself n = grind (arith, nat_tests)
@@ -82,23 +84,37 @@ class_below up object s t a b e k d =
 
 module _ (reply : Replies) (l : LayoutOf) (s t : Ty) where
   module _ (a b : Scope) (from : s.base ≡ Class a) (to : t.base ≡ Class b) where
+    -- by the supertypes of the class
+    abbrev by_supers : Rule Bool
+    by_supers = and_then (supers_of l a) (λ up. done (is_subtype up (object_scope l) s t))
+
     at_classes : (x : Result Bool (Stop (Query JavaPred))) → Reads reply (base_fits l s t (Class a) (Class b)) x → Reads reply (base_fits l s t s.base t.base) x
     at_classes x h =
         subst (λ (y : TypeBase). Reads reply (base_fits l s t y t.base) x) (sym from) (subst (λ (y : TypeBase). Reads reply (base_fits l s t (Class a) y) x) (sym to) h)
 
-    pub class_ok : (up : Answer JavaDatum) (v : Bool) → s.dims ≡ t.dims → reply (for_any SUPERS a) ≡ Some up → v ≡ (has_end l Supertypes b up || (is_interface_of l a && is_scope b (object_scope l))) → Reads reply (base_fits l s t s.base t.base) (Ok v)
-    unfolding supers_of
-    class_ok up v d e k =
-        at_classes (Ok v) (ask_ok reply (for_any SUPERS a) (λ up. done (is_subtype (with_object l a (answer_supers l up)) (object_scope l) s t)) up (Ok v) e
-        (done_reads reply (is_subtype (with_object l a (answer_supers l up)) (object_scope l) s t) v (class_below (with_object l a (answer_supers l up)) (object_scope l) s t a b from to d ∙ (above_by l b a up ∙ sym k))))
+    -- `Object` is above an interface
+    pub under_object : (w : Bool) → w ≡ is_under_object l a b → w ≡ true → Reads reply (base_fits l s t s.base t.base) (Ok true)
+    under_object w is met =
+        at_classes (Ok true) (subst (λ (u : Bool). Reads reply (cond u (done true) by_supers) (Ok true)) (sym met ∙ is) (done_reads reply true true refl))
 
-    class_unknown : reply (for_any SUPERS a) ≡ None → Reads {U = Bool} reply (base_fits l s t s.base t.base) (Err (NoReply (for_any SUPERS a)))
-    unfolding supers_of
-    class_unknown e = at_classes (Err (NoReply (for_any SUPERS a))) (ask_err reply (for_any SUPERS a) (λ up. done (is_subtype (with_object l a (answer_supers l up)) (object_scope l) s t)) e)
+    module _ (w : Bool) (is : w ≡ is_under_object l a b) (apart : w ≡ false) where
+      asked_of : (x : Result Bool (Stop (Query JavaPred))) → Reads reply by_supers x → Reads reply (base_fits l s t s.base t.base) x
+      asked_of x h = at_classes x (subst (λ (u : Bool). Reads reply (cond u (done true) by_supers) x) (sym apart ∙ is) h)
 
-    pub class_err : (q : Query JavaPred) (e : Stop (Query JavaPred)) → q ≡ for_any SUPERS a → e ≡ NoReply q → reply q ≡ None → Reads {U = Bool} reply (base_fits l s t s.base t.base) (Err e)
-    class_err q e is asked none =
-        subst (λ (z : Stop (Query JavaPred)). Reads {U = Bool} reply (base_fits l s t s.base t.base) (Err z)) (sym (asked ∙ ap (λ (k : Query JavaPred). NoReply k) is))
-        (class_unknown (ap (λ (k : Query JavaPred). reply k) (sym is) ∙ none))
+      pub class_ok : (up : Answer JavaDatum) (v : Bool) → s.dims ≡ t.dims → reply (for_any SUPERS a) ≡ Some up → v ≡ has_end l Supertypes b up → Reads reply (base_fits l s t s.base t.base) (Ok v)
+      unfolding supers_of
+      class_ok up v d e k =
+          asked_of (Ok v) (ask_ok reply (for_any SUPERS a) (λ up. done (is_subtype (with_object l a (answer_supers l up)) (object_scope l) s t)) up (Ok v) e
+          (done_reads reply (is_subtype (with_object l a (answer_supers l up)) (object_scope l) s t) v
+          (class_below (with_object l a (answer_supers l up)) (object_scope l) s t a b from to d ∙ (above_by l b a up (sym is ∙ apart) ∙ sym k))))
 
-pub ruleset result_steps = (reading_steps, class_ok, class_err)
+      class_unknown : reply (for_any SUPERS a) ≡ None → Reads {U = Bool} reply (base_fits l s t s.base t.base) (Err (NoReply (for_any SUPERS a)))
+      unfolding supers_of
+      class_unknown e = asked_of (Err (NoReply (for_any SUPERS a))) (ask_err reply (for_any SUPERS a) (λ up. done (is_subtype (with_object l a (answer_supers l up)) (object_scope l) s t)) e)
+
+      pub class_err : (q : Query JavaPred) (e : Stop (Query JavaPred)) → q ≡ for_any SUPERS a → e ≡ NoReply q → reply q ≡ None → Reads {U = Bool} reply (base_fits l s t s.base t.base) (Err e)
+      class_err q e same asked none =
+          subst (λ (z : Stop (Query JavaPred)). Reads {U = Bool} reply (base_fits l s t s.base t.base) (Err z)) (sym (asked ∙ ap (λ (k : Query JavaPred). NoReply k) same))
+          (class_unknown (ap (λ (k : Query JavaPred). reply k) (sym same) ∙ none))
+
+pub ruleset result_steps = (reading_steps, under_object, class_ok, class_err)

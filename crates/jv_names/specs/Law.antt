@@ -13,13 +13,15 @@ use Rattle.jv_tree.specs.declared.name.Ident.{Ident}
 use Rattle.jv_tree.specs.declared.names.NameId.{NameId}
 use Rattle.jv_tree.specs.TypeTree.{TypeTree}
 use Rattle.jv_instance.specs.declared.ty.Ty.{Ty}
+use Rattle.jv_names.specs.declared.counts.Counts.TheVariants.{Methods}
+use Rattle.jv_names.specs.declared.kinds.TheConstants.{ABOVE, METHODS}
 use Rattle.jv_names.specs.Access.{type_accessible, member_accessible}
 use Rattle.jv_names.specs.Instances.{has_enclosing}
 use Rattle.jv_names.specs.Kinds.{asked_by}
-use Rattle.jv_names.specs.Members.{field, methods}
+use Rattle.jv_names.specs.Members.{field, find_ends, methods}
 use Rattle.jv_names.specs.Names.{type_name, import_name}
 use Rattle.jv_names.specs.Read.{signature_of, supers_of, result_fits, ctor_of}
-use Rattle.jv_names.specs.Replies.{Rule}
+use Rattle.jv_names.specs.Replies.{Rule, for_any, for_name}
 use Rattle.jv_names.specs.Superclass.{superclass}
 use Rattle.jv_names.specs.WrittenTypes.{written_type}
 
@@ -51,6 +53,14 @@ FieldsReadOnlyTheirQueries = (l : LayoutOf) (class : Scope) (n : NameId) → Rea
 -- the rule of the methods of a name in a type looks at a graph by its own queries alone
 abbrev pub MethodsReadOnlyTheirQueries : Type 0
 MethodsReadOnlyTheirQueries = (l : LayoutOf) (class : Scope) (n : NameId) → ReadsOnlyItsQueries (methods l class n)
+
+-- the rule of the methods of a name above a type looks at a graph by its own queries alone
+abbrev pub MethodsAboveReadOnlyTheirQueries : Type 0
+MethodsAboveReadOnlyTheirQueries = (l : LayoutOf) (class : Scope) (n : NameId) → ReadsOnlyItsQueries (find_ends l Methods (for_name ABOVE class n))
+
+-- the rule of all methods of a type looks at a graph by its own queries alone
+abbrev pub AllMethodsReadOnlyTheirQueries : Type 0
+AllMethodsReadOnlyTheirQueries = (l : LayoutOf) (class : Scope) → ReadsOnlyItsQueries (find_ends l Methods (for_any METHODS class))
 
 -- the rule of whether a member is accessible looks at a graph by its own queries alone
 abbrev pub MemberAccessReadsOnlyItsQueries : Type 0

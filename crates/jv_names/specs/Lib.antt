@@ -1,4 +1,5 @@
 pub mod Access
+pub mod Chosen
 pub mod Ends
 pub mod Inherited
 pub mod Kinds

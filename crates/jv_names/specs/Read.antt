@@ -2,6 +2,7 @@
 use Rattle.std.specs.Prelude.{List, [], ◌∷◌, ◌++◌, Bool, true, false, cond, ◌==◌, ◌&&◌, ◌||◌, not, map, Option, None, Some}
 use Rattle.std.specs.List.{filter, list_any}
 use Rattle.sg_base.specs.declared.scope.Scope.{Scope}
+use Rattle.sg_base.specs.Scope.{is_scope}
 use Rattle.sg_query.specs.declared.answer.Answer.{Answer}
 use Rattle.sg_query.specs.declared.answer.Answer.TheVariants.{Paths, TooMany}
 use Rattle.sg_query.specs.declared.found.Found.{Found}
@@ -99,9 +100,14 @@ supers_of l c = ask (for_any SUPERS c) (λ a. done (with_object l c (answer_supe
 
 -- ---- results
 
--- whether a result of one base is a reference subtype of one of another with the same brackets: of two classes by the supertypes
+-- an interface is compared with `Object`, which is above it whatever its supertypes are (JLS 4.10.2)
+abbrev pub is_under_object : LayoutOf → Scope → Scope → Bool
+is_under_object l a b = is_interface_of l a && is_scope b (object_scope l)
+
+-- whether a result of one base is a reference subtype of one of another with the same brackets: of two classes by the supertypes, which are read
+-- where they decide
 abbrev pub base_fits : LayoutOf → Ty → Ty → TypeBase → TypeBase → Rule Bool
-base_fits l s t (Class a) (Class b) = and_then (supers_of l a) (λ up. done (is_subtype up (object_scope l) s t))
+base_fits l s t (Class a) (Class b) = cond (is_under_object l a b) (done true) (and_then (supers_of l a) (λ up. done (is_subtype up (object_scope l) s t)))
 base_fits l s t a b = done false
 
 -- whether a result fits another one: an equal type, or a reference type below a reference type (JLS 8.4.5)

@@ -8,7 +8,7 @@ use Rattle.jv_tree.specs.declared.name.Ident.{Ident}
 use Rattle.jv_names.specs.declared.meaning.Meaning.{Meaning}
 use Rattle.jv_names.specs.declared.meaning.Meaning.TheVariants.{One, Nothing, Ambiguous, TooMany}
 use Rattle.jv_names.specs.Bodies.{header_bodies}
-use Rattle.jv_names.specs.Reference.{reference}
+use Rattle.jv_names.specs.Names.{type_name}
 use Rattle.jv_names.specs.Replies.{Rule}
 
 -- the superclass by what the first name of the extends clause means: that type, even where it is an interface, and `Object` where it means none
@@ -18,9 +18,9 @@ meant_superclass l Nothing = object_scope l
 meant_superclass l Ambiguous = object_scope l
 meant_superclass l TooMany = object_scope l
 
--- the superclass of a class by the name that it extends
+-- the superclass of a class by the name that it extends; whether that is accessible is not read
 abbrev pub named_superclass : LayoutOf → Scope → List Ident → Rule Scope
-named_superclass l c n = and_then (reference l (file_of l c) (header_bodies l c) n) (λ r. done (meant_superclass l r.meaning))
+named_superclass l c n = and_then (type_name l (file_of l c) (header_bodies l c) n) (λ r. done (meant_superclass l r.meaning))
 
 -- the superclass of a class by the names that it extends, of which the first counts
 abbrev pub superclass : LayoutOf → Scope → List (List Ident) → Rule Scope

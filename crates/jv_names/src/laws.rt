@@ -1,7 +1,7 @@
 //! Laws of the rules of names, each the contract of a function that does nothing.
 
 ghost use Rattle.jv_names.specs.Bounds.{TypeNamesStayIn, ImportsStayIn, TypeAccessStaysIn, ReferencesStayIn, WrittenTypesStayIn, FieldsStayIn, MethodsStayIn, MemberAccessStaysIn, SignaturesAskIn, CtorsAskIn, SupersAskIn, ResultsAskIn, SuperclassesAskIn, InstancesAskIn, BodiesAreTypes, InstanceBodiesAreTypes};
-ghost use Rattle.jv_names.specs.Law.{TypeNamesReadOnlyTheirQueries, ImportsReadOnlyTheirQueries, TypeAccessReadsOnlyItsQueries, FieldsReadOnlyTheirQueries, MethodsReadOnlyTheirQueries, MemberAccessReadsOnlyItsQueries, WrittenTypesReadOnlyTheirQueries, ReadSignaturesReadOnlyTheirQueries, CtorsReadOnlyTheirQueries, SupersReadOnlyTheirQueries, ResultsReadOnlyTheirQueries, SuperclassesReadOnlyTheirQueries, InstancesReadOnlyTheirQueries};
+ghost use Rattle.jv_names.specs.Law.{TypeNamesReadOnlyTheirQueries, ImportsReadOnlyTheirQueries, TypeAccessReadsOnlyItsQueries, FieldsReadOnlyTheirQueries, MethodsReadOnlyTheirQueries, MethodsAboveReadOnlyTheirQueries, AllMethodsReadOnlyTheirQueries, MemberAccessReadsOnlyItsQueries, WrittenTypesReadOnlyTheirQueries, ReadSignaturesReadOnlyTheirQueries, CtorsReadOnlyTheirQueries, SupersReadOnlyTheirQueries, ResultsReadOnlyTheirQueries, SuperclassesReadOnlyTheirQueries, InstancesReadOnlyTheirQueries};
 
 /// The meaning of the name of a type looks at a graph only by the queries that it asks.
 pub fn resolve_type_reads_only_its_queries()
@@ -26,6 +26,16 @@ pub fn find_field_reads_only_its_queries()
 /// The methods of a name look at a graph only by the query that they ask.
 pub fn find_methods_reads_only_its_queries()
     ensures { MethodsReadOnlyTheirQueries }
+{}
+
+/// The methods of a name above a type look at a graph only by the query that they ask.
+pub fn find_methods_above_reads_only_its_queries()
+    ensures { MethodsAboveReadOnlyTheirQueries }
+{}
+
+/// All methods of a type look at a graph only by the query that they ask.
+pub fn find_all_methods_reads_only_its_queries()
+    ensures { AllMethodsReadOnlyTheirQueries }
 {}
 
 /// Whether a member is accessible looks at a graph only by the queries that it asks.

@@ -6,12 +6,13 @@
 //! what the name of a type and of an import means, `specs/WrittenTypes.antt` what a type that is written means,
 //! `specs/Members.antt` which field and methods a name means in a class, and `specs/Access.antt` what is accessible where.
 //! What members and expressions read beside names stands here too: `specs/Read.antt` has the signatures of members, the
-//! supertypes of classes and which result fits another one, `specs/Superclass.antt` the class that a class extends, and
-//! `specs/Instances.antt` enclosing instances.
+//! supertypes of classes and which result fits another one, `specs/Chosen.antt` which of several methods counts,
+//! `specs/Superclass.antt` the class that a class extends, and `specs/Instances.antt` enclosing instances.
 #![tactic(auto)]
 
 mod access;
 mod answers;
+mod chosen;
 mod context;
 mod counted_ends;
 mod counting;
@@ -50,6 +51,7 @@ pub use access::{
     accessible, read_accessible, read_type_accessible, some_has_super, type_accessible,
 };
 pub use answers::has_end;
+pub use chosen::{first_concrete, read_first_fitting, read_fits_all};
 pub use context::Context;
 pub use counts::Counts;
 pub use ends::Ends;

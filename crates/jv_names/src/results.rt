@@ -1,31 +1,27 @@
 //! Which result a method that overrides another one may have.
 
-ghost use Rattle.std.specs.Prelude.{◌≡◌, ◌||◌, ◌&&◌};
-ghost use Rattle.sg_base.specs.Scope.{is_scope};
+ghost use Rattle.std.specs.Prelude.{◌≡◌};
 ghost use Rattle.sg_reading.specs.Stop.{Reads};
-ghost use Rattle.jv_layout.specs.Readers.{is_interface_of, object_scope};
-ghost use Rattle.jv_names.specs.declared.counts.Counts.TheVariants.{Supertypes};
-ghost use Rattle.jv_names.specs.Ends.{has_end};
 ghost use Rattle.jv_names.specs.Replies.{reply_to};
-ghost use Rattle.jv_names.specs.Read.{base_fits, result_fits};
+ghost use Rattle.jv_names.specs.Read.{base_fits, is_under_object, result_fits};
 
 use crate::answers::has_end;
 use crate::counts::Counts;
 use crate::kinds;
 use crate::oracle::Oracle;
 use crate::queries::{ask, for_any};
-use jv_instance::{JavaDatum, JavaPred, Ty, TypeBase};
+use jv_instance::{JavaPred, Ty, TypeBase};
 use jv_layout::Layout;
 use jv_types::{is_reference, is_type, subtype};
 use sg_base::Scope;
-use sg_query::{Answer, Query};
+use sg_query::Query;
 use sg_reading::Stop;
 
-/// Whether a class is above another one by the answer for that one's supertypes; `Object` is above each interface.
-fn is_above(l: &Layout, class: Scope, above: Scope, answer: &Answer<JavaDatum>) -> bool
-    ensures { result ≡ (has_end l.now Supertypes above answer.now || (is_interface_of l.now class && is_scope above (object_scope l.now))) }
+/// Whether an interface is compared with `Object`.
+fn is_under_object(l: &Layout, class: Scope, above: Scope) -> bool
+    ensures { result ≡ is_under_object l.now class above }
 {
-    has_end(l, Counts::Supertypes, above, answer) || (l.is_interface(class) && above == l.object())
+    l.is_interface(class) && above == l.object()
 }
 
 /// Whether a result of one base fits another one with the same brackets.
@@ -40,12 +36,16 @@ fn read_base_fits(l: &Layout, o: &Oracle, from: Ty, to: Ty) -> Result<bool, Stop
     let TypeBase::Class(above) = to.base else {
         return Ok(false);
     };
+    if is_under_object(l, class, above) {
+        return Ok(true);
+    }
     let answer = ask(o, for_any(kinds::SUPERS, class))?;
-    Ok(is_above(l, class, above, answer))
+    Ok(has_end(l, Counts::Supertypes, above, answer))
 }
 
 /// Whether a result fits another one as far as the replies tell it, or the query that has no reply: an equal type, or a
-/// reference type below a reference type (JLS 8.4.5). It takes the time of the paths of the answer.
+/// reference type below a reference type (JLS 8.4.5). Supertypes are asked for where two different classes are compared that have
+/// as many brackets, but not of an interface against `Object`. It takes the time of the paths of the answer.
 #[tactic(auto, using(crate::proofs::ResultSteps::result_steps), unfolding(crate::specs::Read::result_fits))]
 pub fn read_result_fits(
     l: &Layout,

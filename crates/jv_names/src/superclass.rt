@@ -8,8 +8,8 @@ ghost use Rattle.jv_names.specs.Superclass.{meant_superclass, named_superclass, 
 
 use crate::meaning::Meaning;
 use crate::oracle::Oracle;
-use crate::reference::read_reference;
 use crate::spot::Spot;
+use crate::type_names::read_type;
 use jv_instance::JavaPred;
 use jv_layout::Layout;
 use jv_tree::Name;
@@ -28,7 +28,7 @@ fn meant_superclass(l: &Layout, meaning: Meaning) -> Scope
     }
 }
 
-/// The superclass of a class by the name that it extends.
+/// The superclass of a class by the name that it extends. Whether that is accessible is not read.
 #[tactic(auto, using(crate::proofs::SuperclassSteps::superclass_steps))]
 fn read_named_superclass(
     alloc: Global,
@@ -40,13 +40,13 @@ fn read_named_superclass(
     ensures { Reads (reply_to o.now) (named_superclass l.now ty (ids_of name.now)) result }
 {
     let spot = Spot::of_header(alloc, l, ty)?;
-    let reference = read_reference(alloc, l, o, &spot, name)?;
-    Ok(meant_superclass(l, reference.meaning))
+    let resolved = read_type(alloc, l, o, &spot, name)?;
+    Ok(meant_superclass(l, resolved.meaning))
 }
 
 /// The superclass of a class by the names that it extends (JLS 8.1.4), as far as the replies tell it, or the first query that has
-/// no reply: what the first of them means, even where that is an interface, and `Object` where it means no type or none is
-/// written. It takes the time of the answers.
+/// no reply: what the first of them means, even where that is an interface or not accessible, and `Object` where it means no type
+/// or none is written. It takes the time of the answers.
 #[tactic(auto, using(crate::proofs::SuperclassSteps::superclass_steps))]
 pub fn read_superclass(
     alloc: Global,
