@@ -12,10 +12,12 @@ use Rattle.sg_reading.proofs.Lists.{each_after, each_more, each_err, each_end, e
 use Rattle.sg_reading.proofs.Steps.{done_reads, then_ok, then_err, reading_steps}
 use Rattle.jv_instance.specs.declared.datum.JavaDatum.{JavaDatum}
 use Rattle.jv_instance.specs.declared.pred.JavaPred.{JavaPred}
+use Rattle.jv_instance.specs.declared.ty.Ty.{Ty}
 use Rattle.jv_layout.specs.Folder.{LayoutOf}
+use Rattle.jv_names.specs.Chosen.{fits_all}
 use Rattle.jv_names.specs.Replies.{Rule}
-use Rattle.jv_names.specs.Read.{SignatureOf, result_fits}
-use Rattle.jv_member.specs.Overriding.{meets, is_other, fits_each, some_fits}
+use Rattle.jv_names.specs.Read.{SignatureOf}
+use Rattle.jv_member.specs.Overriding.{meets, is_other, some_fits}
 
 abbrev Replies : Type 0
 Replies = Query JavaPred → Option (Answer JavaDatum)
@@ -53,46 +55,25 @@ module _ (reply : Replies) (l : LayoutOf) (m : Scope) (s : SignatureOf) (found :
   pub meets_end : length ws ≤ i → Reads reply (each_after (meets l m s) found (filter (is_other m) (drop i ws))) (Ok found)
   meets_end past = subst (λ (r : Rule (List (Option ℕ))). Reads reply r (Ok found)) (sym (at_drop_all after ws i past)) (each_end reply (meets l m s) found [] 0 (omega arith))
 
--- ---- a result that fits all
+-- ---- one result that fits all
 
-module _ (reply : Replies) (l : LayoutOf) (a : SignatureOf) (ws : List Whole) (i : ℕ) where
-  module _ (d : Whole) (below : i < length ws) where
-    fits_here : (x : Result Bool (Stop (Query JavaPred))) → Reads reply (and_then (result_fits l a.result (get_or ws i d).1.result) (λ ok. cond ok (fits_each l a (drop (i + 1) ws)) (done false))) x → Reads reply (fits_each l a (drop i ws)) x
-    fits_here x h = subst (λ (r : Rule Bool). Reads reply r x) (sym (at_drop_more (λ (ys : List Whole). fits_each l a ys) ws i d below)) h
+module _ (reply : Replies) (l : LayoutOf) (all : List Ty) (ts : List Ty) (i : ℕ) where
+  module _ (d : Ty) (below : i < length ts) where
+    some_here : (x : Result Bool (Stop (Query JavaPred))) → Reads reply (and_then (fits_all l (get_or ts i d) all) (λ ok. cond ok (done true) (some_fits l all (drop (i + 1) ts)))) x → Reads reply (some_fits l all (drop i ts)) x
+    some_here x h = subst (λ (r : Rule Bool). Reads reply r x) (sym (at_drop_more (λ (us : List Ty). some_fits l all us) ts i d below)) h
 
-    pub fits_more : (v : Bool) (x : Result Bool (Stop (Query JavaPred))) → Reads reply (result_fits l a.result (get_or ws i d).1.result) (Ok v) → v ≡ true → Reads reply (fits_each l a (drop (i + 1) ws)) x → Reads reply (fits_each l a (drop i ws)) x
-    fits_more v x g e h =
-        fits_here x (then_ok reply (result_fits l a.result (get_or ws i d).1.result) (λ ok. cond ok (fits_each l a (drop (i + 1) ws)) (done false)) v x g (subst (λ (k : Bool). Reads reply (cond k (fits_each l a (drop (i + 1) ws)) (done false)) x) (sym e) h))
-
-    pub fits_not : (v : Bool) → Reads reply (result_fits l a.result (get_or ws i d).1.result) (Ok v) → v ≡ false → Reads reply (fits_each l a (drop i ws)) (Ok false)
-    fits_not v g e =
-        fits_here (Ok false) (then_ok reply (result_fits l a.result (get_or ws i d).1.result) (λ ok. cond ok (fits_each l a (drop (i + 1) ws)) (done false)) v (Ok false) g (subst (λ (k : Bool). Reads reply (cond k (fits_each l a (drop (i + 1) ws)) (done false)) (Ok false)) (sym e) (done_reads reply false false refl)))
-
-    pub fits_err : (e : Stop (Query JavaPred)) → Reads {U = Bool} reply (result_fits l a.result (get_or ws i d).1.result) (Err e) → Reads {U = Bool} reply (fits_each l a (drop i ws)) (Err e)
-    fits_err e g = fits_here (Err e) (then_err reply (result_fits l a.result (get_or ws i d).1.result) (λ ok. cond ok (fits_each l a (drop (i + 1) ws)) (done false)) e g)
-
-  pub fits_end : length ws ≤ i → Reads {U = Bool} reply (fits_each l a (drop i ws)) (Ok true)
-  fits_end past = subst (λ (r : Rule Bool). Reads {U = Bool} reply r (Ok true)) (sym (at_drop_all (λ (ys : List Whole). fits_each l a ys) ws i past)) (done_reads reply true true refl)
-
--- ---- one method whose result fits all
-
-module _ (reply : Replies) (l : LayoutOf) (all : List Whole) (ws : List Whole) (i : ℕ) where
-  module _ (d : Whole) (below : i < length ws) where
-    some_here : (x : Result Bool (Stop (Query JavaPred))) → Reads reply (and_then (fits_each l (get_or ws i d).1 all) (λ ok. cond ok (done true) (some_fits l all (drop (i + 1) ws)))) x → Reads reply (some_fits l all (drop i ws)) x
-    some_here x h = subst (λ (r : Rule Bool). Reads reply r x) (sym (at_drop_more (λ (ys : List Whole). some_fits l all ys) ws i d below)) h
-
-    pub some_more : (v : Bool) (x : Result Bool (Stop (Query JavaPred))) → Reads reply (fits_each l (get_or ws i d).1 all) (Ok v) → v ≡ false → Reads reply (some_fits l all (drop (i + 1) ws)) x → Reads reply (some_fits l all (drop i ws)) x
+    pub some_more : (v : Bool) (x : Result Bool (Stop (Query JavaPred))) → Reads reply (fits_all l (get_or ts i d) all) (Ok v) → v ≡ false → Reads reply (some_fits l all (drop (i + 1) ts)) x → Reads reply (some_fits l all (drop i ts)) x
     some_more v x g e h =
-        some_here x (then_ok reply (fits_each l (get_or ws i d).1 all) (λ ok. cond ok (done true) (some_fits l all (drop (i + 1) ws))) v x g (subst (λ (k : Bool). Reads reply (cond k (done true) (some_fits l all (drop (i + 1) ws))) x) (sym e) h))
+        some_here x (then_ok reply (fits_all l (get_or ts i d) all) (λ ok. cond ok (done true) (some_fits l all (drop (i + 1) ts))) v x g (subst (λ (k : Bool). Reads reply (cond k (done true) (some_fits l all (drop (i + 1) ts))) x) (sym e) h))
 
-    pub some_found : (v : Bool) → Reads reply (fits_each l (get_or ws i d).1 all) (Ok v) → v ≡ true → Reads reply (some_fits l all (drop i ws)) (Ok true)
+    pub some_found : (v : Bool) → Reads reply (fits_all l (get_or ts i d) all) (Ok v) → v ≡ true → Reads reply (some_fits l all (drop i ts)) (Ok true)
     some_found v g e =
-        some_here (Ok true) (then_ok reply (fits_each l (get_or ws i d).1 all) (λ ok. cond ok (done true) (some_fits l all (drop (i + 1) ws))) v (Ok true) g (subst (λ (k : Bool). Reads reply (cond k (done true) (some_fits l all (drop (i + 1) ws))) (Ok true)) (sym e) (done_reads reply true true refl)))
+        some_here (Ok true) (then_ok reply (fits_all l (get_or ts i d) all) (λ ok. cond ok (done true) (some_fits l all (drop (i + 1) ts))) v (Ok true) g (subst (λ (k : Bool). Reads reply (cond k (done true) (some_fits l all (drop (i + 1) ts))) (Ok true)) (sym e) (done_reads reply true true refl)))
 
-    pub some_err : (e : Stop (Query JavaPred)) → Reads {U = Bool} reply (fits_each l (get_or ws i d).1 all) (Err e) → Reads {U = Bool} reply (some_fits l all (drop i ws)) (Err e)
-    some_err e g = some_here (Err e) (then_err reply (fits_each l (get_or ws i d).1 all) (λ ok. cond ok (done true) (some_fits l all (drop (i + 1) ws))) e g)
+    pub some_err : (e : Stop (Query JavaPred)) → Reads {U = Bool} reply (fits_all l (get_or ts i d) all) (Err e) → Reads {U = Bool} reply (some_fits l all (drop i ts)) (Err e)
+    some_err e g = some_here (Err e) (then_err reply (fits_all l (get_or ts i d) all) (λ ok. cond ok (done true) (some_fits l all (drop (i + 1) ts))) e g)
 
-  pub some_end : length ws ≤ i → Reads {U = Bool} reply (some_fits l all (drop i ws)) (Ok false)
-  some_end past = subst (λ (r : Rule Bool). Reads {U = Bool} reply r (Ok false)) (sym (at_drop_all (λ (ys : List Whole). some_fits l all ys) ws i past)) (done_reads reply false false refl)
+  pub some_end : length ts ≤ i → Reads {U = Bool} reply (some_fits l all (drop i ts)) (Ok false)
+  some_end past = subst (λ (r : Rule Bool). Reads {U = Bool} reply r (Ok false)) (sym (at_drop_all (λ (us : List Ty). some_fits l all us) ts i past)) (done_reads reply false false refl)
 
-pub ruleset meeting_steps = (reading_steps, each_reads, meets_passed, meets_more, meets_err, meets_end, fits_more, fits_not, fits_err, fits_end, some_more, some_found, some_err, some_end)
+pub ruleset meeting_steps = (reading_steps, each_reads, meets_passed, meets_more, meets_err, meets_end, some_more, some_found, some_err, some_end)

@@ -1,7 +1,7 @@
 -- All that is checked of a type's members asks queries of the layout, whatever the answers.
 use Rattle.std.proofs.Common.{ℕ, ◌<◌, ◌||◌, not, nat_lt, Bool, true, false, cond, IfSome, List, [], ◌∷◌, Option, Some, None, length, fold, arith}
 use Rattle.std.specs.List.{All, Contains, filter}
-use Rattle.std.proofs.lemmas.List.Elements.{All-nil, All-cons, All-head, All-tail, All-weaker, All-contains, All-contains_itself, All-filter}
+use Rattle.std.proofs.lemmas.List.Elements.{All-nil, All-cons, All-head, All-map, All-tail, All-weaker, All-contains, All-contains_itself, All-filter}
 use Rattle.sg_base.specs.declared.scope.Scope.{Scope}
 use Rattle.sg_base.specs.Scope.{is_scope, scope_cmp}
 use Rattle.sg_query.specs.declared.query.Query.{Query}
@@ -10,6 +10,7 @@ use Rattle.sg_reading.proofs.Asking.{AllAsked-more, AllEnds-more, and_then-asked
 use Rattle.sg_state.specs.Held.{put}
 use Rattle.jv_instance.specs.declared.labels.TheConstants.{METH, CTOR}
 use Rattle.jv_instance.specs.declared.pred.JavaPred.{JavaPred}
+use Rattle.jv_instance.specs.declared.ty.Ty.{Ty}
 use Rattle.jv_layout.specs.Duplicates.{is_duplicate}
 use Rattle.jv_layout.specs.Folder.{LayoutOf}
 use Rattle.jv_layout.specs.Linked.{IsLinked}
@@ -25,6 +26,7 @@ use Rattle.jv_names.specs.declared.kinds.TheConstants.{METHODS, ABOVE}
 use Rattle.jv_names.specs.Access.{member_accessible}
 use Rattle.jv_names.specs.Bodies.{member_bodies}
 use Rattle.jv_names.specs.Bounds.{IsNameQuery, IsListed, IsTypeScope, IsTyIn, IsReadIn, IsMemberScope, EndsOnly}
+use Rattle.jv_names.specs.Chosen.{first_concrete, fits_all}
 use Rattle.jv_names.specs.Ends.{answer_ends}
 use Rattle.jv_names.specs.Instances.{instance_bodies, has_enclosing}
 use Rattle.jv_names.specs.Members.{find_ends, is_method_named, object_methods}
@@ -32,12 +34,12 @@ use Rattle.jv_names.specs.Replies.{Rule, for_any, for_name}
 use Rattle.jv_names.specs.Superclass.{superclass}
 use Rattle.jv_names.proofs.Bounds.{answer_ends_sought, bodies_are_types, member_accessible_stays}
 use Rattle.jv_names.proofs.Listed.{member_is_listed, members_listed, type_is_listed}
-use Rattle.jv_names.proofs.ReadBounds.{Asked, signature_given, ctor_found, name_asked, cond_asked, signature_asks, find_asks, ctor_asks, result_asks, superclass_asks, superclass_found, enclosing_asks, instance_bodies_are_types}
+use Rattle.jv_names.proofs.ReadBounds.{Asked, signature_given, ctor_found, name_asked, cond_asked, signature_asks, find_asks, ctor_asks, fits_all_asks, result_asks, superclass_asks, superclass_found, enclosing_asks, instance_bodies_are_types}
 use Rattle.jv_member.specs.Bounds.{IsNumberedOwn, MembersAskInLayout}
 use Rattle.jv_member.specs.Constructors.{call_at, call_diags, call_of, calls_at, can_call, ctor_rule, only_class, takes_some}
 use Rattle.jv_member.specs.Declaration.{joined}
 use Rattle.jv_member.specs.Members.{Placed, check_by, member_calls, member_overrides, overrides, placed}
-use Rattle.jv_member.specs.Overriding.{against, all_groups, code_diags, concrete_codes, declares_one, first_concrete, fits_each, group_rule, groups_of, inherited_rule, is_other, is_weaker, meeting, meeting_code, meeting_codes, meets, met_codes, method_rule, on_whole, overriding, overriding_code, params_differ, signature_among, some_fits, static_differs, weaker_or_other, whole_methods, with_objects}
+use Rattle.jv_member.specs.Overriding.{against, all_groups, code_diags, concrete_codes, declares_one, group_rule, groups_of, inherited_rule, is_other, is_weaker, meeting, meeting_code, meeting_codes, meets, met_codes, method_rule, on_whole, overriding, overriding_code, params_differ, results_of, signature_among, some_fits, static_differs, weaker_or_other, whole_methods, with_objects}
 use Rattle.jv_member.specs.Own.{OwnMember, own_field, own_method, own_ctor, default_ctor, own_members}
 use Rattle.jv_names.specs.Read.{SignatureOf, ctor_of, is_whole, result_fits, same_types, signature_of}
 use Rattle.jv_member.proofs.Bounds.{own_members_are_numbered}
@@ -157,17 +159,11 @@ module _ (l : LayoutOf) (count : ℕ) where
 
   -- ---- methods that meet
 
-  fits_asks : (a : SignatureOf) (ws : List (Scope × SignatureOf)) → IsTyIn l a.result → AllAsked (Asked l count) (fits_each l a ws)
-  fits_asks a [] h = tt
-  fits_asks a (w ∷ ws) h =
-      and_then-asked (Asked l count) (result_fits l a.result w.1.result) (λ ok. cond ok (fits_each l a ws) (done false)) (result_asks l count a.result w.1.result h)
-      (λ ok. cond_asked l count ok (fits_each l a ws) (done false) (fits_asks a ws h) tt)
-
-  some_asks : (all ws : List (Scope × SignatureOf)) → All (HasFit l) ws → AllAsked (Asked l count) (some_fits l all ws)
+  some_asks : (all ts : List Ty) → All (IsTyIn l) ts → AllAsked (Asked l count) (some_fits l all ts)
   some_asks all [] h = tt
-  some_asks all (w ∷ ws) h =
-      and_then-asked (Asked l count) (fits_each l w.1 all) (λ ok. cond ok (done true) (some_fits l all ws)) (fits_asks w.1 all (All-head (HasFit l) w ws h))
-      (λ ok. cond_asked l count ok (done true) (some_fits l all ws) tt (some_asks all ws (All-tail (HasFit l) w ws h)))
+  some_asks all (t ∷ ts) h =
+      and_then-asked (Asked l count) (fits_all l t all) (λ ok. cond ok (done true) (some_fits l all ts)) (fits_all_asks l count t all (All-head (IsTyIn l) t ts h))
+      (λ ok. cond_asked l count ok (done true) (some_fits l all ts) tt (some_asks all ts (All-tail (IsTyIn l) t ts h)))
 
   concrete_asks : (m : Scope) (o : Option SignatureOf) (ws : List (Scope × SignatureOf)) → IsGivenIn l o → AllAsked (Asked l count) (concrete_codes l m o ws)
   concrete_asks m None ws h = tt
@@ -175,8 +171,8 @@ module _ (l : LayoutOf) (count : ℕ) where
 
   met_asks : (ms : List Scope) (o : Option Scope) (ws : List (Scope × SignatureOf)) → All (HasFit l) ws → AllAsked (Asked l count) (met_codes l ms o ws)
   met_asks ms None ws h =
-      cond_asked l count _ (and_then (some_fits l ws ws) (λ ok. done (cond ok [] (Some 34 ∷ [])))) (done [])
-      (and_then-asked (Asked l count) (some_fits l ws ws) (λ ok. done (cond ok [] (Some 34 ∷ []))) (some_asks ws ws h) (λ ok. tt)) tt
+      cond_asked l count _ (and_then (some_fits l (results_of ws) (results_of ws)) (λ ok. done (cond ok [] (Some 34 ∷ [])))) (done [])
+      (and_then-asked (Asked l count) (some_fits l (results_of ws) (results_of ws)) (λ ok. done (cond ok [] (Some 34 ∷ []))) (some_asks (results_of ws) (results_of ws) (All-map (IsTyIn l) (λ w. w.1.result) ws h)) (λ ok. tt)) tt
   met_asks ms (Some m) ws h = concrete_asks m (signature_among m ws) ws (among_given l m ws h)
 
   meeting_asks : (c : Scope) (ms : List Scope) → All (IsListed l) ms → AllAsked (Asked l count) (meeting l c ms)
@@ -188,6 +184,9 @@ module _ (l : LayoutOf) (count : ℕ) where
       (each-ends (IsGivenIn l) (signature_of l) ms (λ m k. result_given l m))
       (λ ss given. cond_asked l count (params_differ (whole_methods ms ss)) (done (Some 36 ∷ [])) (met_codes l ms (first_concrete l ms) (whole_methods ms ss)) tt
       (met_asks ms (first_concrete l ms) (whole_methods ms ss) (whole_fit l ms ss (All-weaker (Contains ss) (IsGivenIn l) given ss (All-contains_itself ss))))))
+
+  all_methods_ask : (c : Scope) → IsTypeScope l c → AllAsked (Asked l count) (find_ends l Methods (for_any METHODS c))
+  all_methods_ask c is = find_asks l count Methods (for_any METHODS c) (record { start = type_is_listed l c is; kind = omega arith; pred = tt })
 
   module _ (names : List (List ℕ)) (c : Scope) (type : Ident) where
     group_asks : (g : NameId × List Scope) → All (IsListed l) g.1 → AllAsked (Asked l count) (group_rule l names c type g)
@@ -205,8 +204,7 @@ module _ (l : LayoutOf) (count : ℕ) where
     unfolding inherited_rule
     inherited_asks is =
         and_then-asked_where (Asked l count) (EndsOnly (IsListed l)) (find_ends l Methods (for_any METHODS c)) (all_groups l names c type)
-        (find_asks l count Methods (for_any METHODS c) (record { start = type_is_listed l c is; kind = omega arith; pred = tt }))
-        (methods_found l (for_any METHODS c)) groups_ask
+        (all_methods_ask c is) (methods_found l (for_any METHODS c)) groups_ask
 
   -- ---- constructors
 
@@ -263,10 +261,11 @@ module _ (l : LayoutOf) (count : ℕ) where
 
       check_asks : (type : Ident) (ps : List Placed) → All IsPlacedIn ps → AllAsked (Asked l count) (check_by l names c type extends ps)
       check_asks type ps h =
-          and_then-asked (Asked l count) (each (member_overrides l names c type) ps) _
+          and_then-asked_where (Asked l count) (EndsOnly (IsListed l)) (find_ends l Methods (for_any METHODS c)) _ (all_methods_ask c is) (methods_found l (for_any METHODS c))
+          (λ ends found. and_then-asked (Asked l count) (each (member_overrides l names c type) ps) _
           (each-asked (Asked l count) (member_overrides l names c type) ps (λ p k. let q = All-contains IsPlacedIn ps p h k in overrides_ask type p.0 p.1 q.0 q.1))
-          (λ overs. and_then-asked (Asked l count) (inherited_rule l names c type) _ (inherited_asks names c type is)
-          (λ found. and_then-asked (Asked l count) (each (member_calls l names c extends) ps) _ (each-asked (Asked l count) (member_calls l names c extends) ps (λ p k. ctor_rule_asks p.1)) (λ calls. tt)))
+          (λ overs. and_then-asked (Asked l count) (all_groups l names c type ends) _ (groups_ask names c type ends found)
+          (λ meets. and_then-asked (Asked l count) (each (member_calls l names c extends) ps) _ (each-asked (Asked l count) (member_calls l names c extends) ps (λ p k. ctor_rule_asks p.1)) (λ calls. tt))))
 
 -- ---- as a law
 

@@ -8,10 +8,13 @@ use Rattle.jv_layout.specs.Folder.{LayoutOf}
 use Rattle.jv_layout.specs.Readers.{members_of}
 use Rattle.jv_tree.specs.declared.name.Ident.{Ident}
 use Rattle.jv_tree.specs.DeclTree.{TypeDeclTree, type_decl}
-use Rattle.jv_names.specs.Replies.{Rule}
+use Rattle.jv_names.specs.declared.counts.Counts.TheVariants.{Methods}
+use Rattle.jv_names.specs.declared.kinds.TheConstants.{METHODS}
+use Rattle.jv_names.specs.Members.{find_ends}
+use Rattle.jv_names.specs.Replies.{Rule, for_any}
 use Rattle.jv_member.specs.Constructors.{ctor_rule}
 use Rattle.jv_member.specs.Declaration.{joined, member_diags}
-use Rattle.jv_member.specs.Overriding.{inherited_rule, method_rule}
+use Rattle.jv_member.specs.Overriding.{all_groups, method_rule}
 use Rattle.jv_member.specs.Own.{OwnMember, own_field, own_method, own_ctor, default_ctor, own_members}
 
 -- a member of a type, with its scope
@@ -45,11 +48,11 @@ abbrev pub member_calls : LayoutOf → List (List ℕ) → Scope → List (List 
 member_calls l names c extends p = ctor_rule l names c extends p.1
 
 -- the diagnostics of the members of a type with this name, which extends these names: of each declaration, of the methods that it declares over others,
--- of those that meet in it, and of its constructors
+-- of those that meet in it, and of its constructors; all its methods are asked for first
 abbrev pub check_by : LayoutOf → List (List ℕ) → Scope → Ident → List (List Ident) → List Placed → Rule (List DiagOf)
 check_by l names c type extends ps =
-    and_then (each (member_overrides l names c type) ps) (λ overs. and_then (inherited_rule l names c type) (λ meets. and_then (each (member_calls l names c extends) ps) (λ calls.
-    done ((declarations_of l names c type ps ++ joined overs) ++ (meets ++ joined calls)))))
+    and_then (find_ends l Methods (for_any METHODS c)) (λ ends. and_then (each (member_overrides l names c type) ps) (λ overs. and_then (all_groups l names c type ends) (λ meets. and_then (each (member_calls l names c extends) ps) (λ calls.
+    done ((declarations_of l names c type ps ++ joined overs) ++ (meets ++ joined calls))))))
 
 -- the diagnostics of the members of a type by its declaration, whose members have the scopes of the type's in the layout
 abbrev pub members_rule : LayoutOf → List (List ℕ) → Scope → TypeDeclTree → Rule (List DiagOf)

@@ -1,5 +1,5 @@
 -- What overrides what, and which methods meet (JLS 8.4.8, 9.4.1, 8.1.1.1).
-use Rattle.std.specs.Prelude.{ℕ, ◌==◌, ◌&&◌, ◌||◌, not, nat_lt, Bool, true, false, cond, List, [], ◌∷◌, ◌++◌, length, fold, Option, None, Some}
+use Rattle.std.specs.Prelude.{ℕ, ◌==◌, ◌&&◌, ◌||◌, not, nat_lt, Bool, true, false, cond, List, [], ◌∷◌, ◌++◌, length, fold, map, Option, None, Some}
 use Rattle.std.specs.List.{filter, list_any, list_all}
 use Rattle.std.specs.Map.{lookup}
 use Rattle.indexmap.specs.IndexMap.{insert_entry}
@@ -10,6 +10,7 @@ use Rattle.sg_state.specs.Held.{put}
 use Rattle.jv_diag.specs.Plain.{DiagOf, diagnostic, fault_if}
 use Rattle.jv_instance.specs.declared.access.Access.{Access}
 use Rattle.jv_instance.specs.declared.access.Access.TheVariants.{Public, Protected, Package, Private}
+use Rattle.jv_instance.specs.declared.ty.Ty.{Ty}
 use Rattle.jv_layout.specs.Duplicates.{simple_name}
 use Rattle.jv_layout.specs.Folder.{LayoutOf, text_of}
 use Rattle.jv_layout.specs.Readers.{access_of, file_of, is_abstract_of, is_final_of, is_interface_of, is_static_of, owner_scope}
@@ -19,6 +20,7 @@ use Rattle.jv_names.specs.declared.counts.Counts.TheVariants.{Methods}
 use Rattle.jv_names.specs.declared.ends.Ends.{Ends}
 use Rattle.jv_names.specs.declared.ends.Ends.TheVariants.{Scopes, TooMany}
 use Rattle.jv_names.specs.declared.kinds.TheConstants.{METHODS, ABOVE}
+use Rattle.jv_names.specs.Chosen.{first_concrete, fits_all}
 use Rattle.jv_names.specs.Members.{find_ends, object_methods}
 use Rattle.jv_names.specs.Read.{SignatureOf, signature_of, is_whole, same_types, result_fits}
 use Rattle.jv_names.specs.Replies.{Rule, for_any, for_name}
@@ -144,11 +146,6 @@ abbrev pub params_differ : List (Scope × SignatureOf) → Bool
 params_differ [] = false
 params_differ (w ∷ ws) = list_any (λ x. not (same_types w.1.params x.1.params)) ws
 
--- the first method that is not abstract
-abbrev pub first_concrete : LayoutOf → List Scope → Option Scope
-first_concrete l [] = None
-first_concrete l (m ∷ ms) = cond (is_abstract_of l m) (first_concrete l ms) (Some m)
-
 -- the signature of a method among those
 abbrev pub signature_among : Scope → List (Scope × SignatureOf) → Option SignatureOf
 signature_among m [] = None
@@ -167,19 +164,18 @@ abbrev pub concrete_codes : LayoutOf → Scope → Option SignatureOf → List (
 concrete_codes l m None ws = done []
 concrete_codes l m (Some s) ws = each (meets l m s) (filter (is_other m) ws)
 
--- a result fits each of some others
-abbrev pub fits_each : LayoutOf → SignatureOf → List (Scope × SignatureOf) → Rule Bool
-fits_each l a [] = done true
-fits_each l a (w ∷ ws) = and_then (result_fits l a.result w.1.result) (λ ok. cond ok (fits_each l a ws) (done false))
+-- the results of methods
+abbrev pub results_of : List (Scope × SignatureOf) → List Ty
+results_of ws = map (λ w. w.1.result) ws
 
--- the result of one of the methods fits all others
-abbrev pub some_fits : LayoutOf → List (Scope × SignatureOf) → List (Scope × SignatureOf) → Rule Bool
+-- one of the results fits all others
+abbrev pub some_fits : LayoutOf → List Ty → List Ty → Rule Bool
 some_fits l all [] = done false
-some_fits l all (w ∷ ws) = and_then (fits_each l w.1 all) (λ ok. cond ok (done true) (some_fits l all ws))
+some_fits l all (t ∷ ts) = and_then (fits_all l t all) (λ ok. cond ok (done true) (some_fits l all ts))
 
 -- abstract methods alone: where no signature has a bad type, the result of one of them fits all others
 abbrev pub abstract_codes : LayoutOf → List Scope → List (Scope × SignatureOf) → Rule (List (Option ℕ))
-abstract_codes l ms ws = cond (length ws == length ms) (and_then (some_fits l ws ws) (λ ok. done (cond ok [] (Some 34 ∷ [])))) (done [])
+abstract_codes l ms ws = cond (length ws == length ms) (and_then (some_fits l (results_of ws) (results_of ws)) (λ ok. done (cond ok [] (Some 34 ∷ [])))) (done [])
 
 -- what is wrong with methods that meet, by the first that is not abstract; where there is none, all are abstract
 abbrev pub met_codes : LayoutOf → List Scope → Option Scope → List (Scope × SignatureOf) → Rule (List (Option ℕ))

@@ -111,9 +111,10 @@ fn read_groups(
     Ok(lists)
 }
 
-/// The diagnostics of the methods by the ends of their paths.
+/// The diagnostics of all methods that a type has, by the ends of their paths. It takes the time of the answers, and for each name
+/// that of comparing each pair of its methods.
 #[tactic(auto, using(crate::proofs::GroupSteps::group_steps))]
-fn read_all_groups(
+pub fn read_all_groups(
     alloc: Global,
     l: &Layout,
     names: &Names,

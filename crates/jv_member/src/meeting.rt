@@ -1,12 +1,12 @@
 //! Methods of one name that meet in a type.
 
-ghost use Rattle.std.specs.Prelude.{◌≡◌, option_copied};
+ghost use Rattle.std.specs.Prelude.{◌≡◌, IfOk, option_copied};
 ghost use Rattle.std.specs.List.{filter};
 ghost use Rattle.sg_reading.specs.Reading.{each};
 ghost use Rattle.sg_reading.specs.Stop.{Reads};
 ghost use Rattle.jv_names.specs.Replies.{reply_to};
-ghost use Rattle.jv_names.specs.Read.{result_fits};
-ghost use Rattle.jv_member.specs.Overriding.{is_owner, declares_one, first_concrete, meets, is_other, concrete_codes, fits_each, some_fits, abstract_codes, met_codes, meeting_codes, meeting};
+ghost use Rattle.jv_names.specs.Chosen.{first_concrete};
+ghost use Rattle.jv_member.specs.Overriding.{is_owner, declares_one, meets, is_other, concrete_codes, results_of, some_fits, abstract_codes, met_codes, meeting_codes, meeting};
 
 use crate::clash::{Clash, ClashKind};
 use crate::codes::Codes;
@@ -14,13 +14,13 @@ use crate::pairs::read_meeting_code;
 use crate::whole_methods::{
     WholeMethod, params_differ, read_signatures, signature_among, whole_methods,
 };
-use jv_instance::JavaPred;
+use jv_instance::{JavaPred, Ty, TypeList};
 use jv_layout::Layout;
-use jv_names::{Oracle, ReadSignature, read_result_fits};
+use jv_names::{Oracle, ReadSignature, first_concrete, read_fits_all};
 use sg_base::Scope;
 use sg_query::Query;
 use sg_reading::Stop;
-use std::alloc::Global;
+use std::alloc::{AllocError, Global};
 
 /// Whether a type is the owner of a member.
 fn is_owner(ty: Scope, owner: Option<Scope>) -> bool
@@ -37,18 +37,6 @@ fn declares_one(l: &Layout, ty: Scope, methods: &[Scope]) -> bool
     ensures { result ≡ declares_one l.now ty methods.now }
 {
     methods.iter().any(|method| is_owner(ty, l.owner(*method)))
-}
-
-/// The first method that is not abstract.
-fn first_concrete(l: &Layout, methods: &[Scope]) -> Option<Scope>
-    ensures { result ≡ first_concrete l.now methods.now }
-{
-    for method in methods {
-        if !l.is_abstract(*method) {
-            return Some(*method);
-        }
-    }
-    None
 }
 
 /// Whether a method is another one.
@@ -69,18 +57,6 @@ fn read_meets(
     ensures { Reads (reply_to o.now) (meets l.now method signature.now other.now) result }
 {
     read_meeting_code(l, o, method, other.scope, signature, &other.signature)
-}
-
-/// Whether a result fits that of a method.
-fn read_fits(
-    l: &Layout,
-    o: &Oracle,
-    signature: &ReadSignature,
-    other: &WholeMethod,
-) -> Result<bool, Stop<Query<JavaPred>>>
-    ensures { Reads (reply_to o.now) (result_fits l.now signature.now.result other.now.1.result) result }
-{
-    read_result_fits(l, o, signature.result, other.signature.result)
 }
 
 /// What is wrong with each of the other methods where one stands for all.
@@ -123,47 +99,24 @@ fn read_concrete_codes(
     }
 }
 
-/// Whether a result fits that of each of some methods.
-#[tactic(auto, using(crate::proofs::MeetingSteps::meeting_steps))]
-fn read_fits_each(
-    l: &Layout,
-    o: &Oracle,
-    signature: &ReadSignature,
-    methods: &[WholeMethod],
-) -> Result<bool, Stop<Query<JavaPred>>>
-    ensures { Reads (reply_to o.now) (fits_each l.now signature.now methods.now) result }
+/// The results of methods.
+fn results_of(alloc: Global, methods: &[WholeMethod]) -> Result<TypeList, AllocError>
+    ensures { IfOk result (λ types. types ≡ results_of methods.now) }
 {
-    for other in methods {
-        if !read_fits(l, o, signature, other)? {
-            return Ok(false);
-        }
-    }
-    Ok(true)
-}
-
-/// Whether the result of a method fits that of each of some methods.
-fn read_fits_all(
-    l: &Layout,
-    o: &Oracle,
-    method: &WholeMethod,
-    methods: &[WholeMethod],
-) -> Result<bool, Stop<Query<JavaPred>>>
-    ensures { Reads (reply_to o.now) (fits_each l.now method.now.1 methods.now) result }
-{
-    read_fits_each(l, o, &method.signature, methods)
-}
-
-/// Whether the result of one of the methods fits those of all.
-#[tactic(auto, using(crate::proofs::MeetingSteps::meeting_steps))]
-fn read_some_fits(
-    l: &Layout,
-    o: &Oracle,
-    methods: &[WholeMethod],
-) -> Result<bool, Stop<Query<JavaPred>>>
-    ensures { Reads (reply_to o.now) (some_fits l.now methods.now methods.now) result }
-{
+    let mut results = Vec::new(alloc);
     for method in methods {
-        if read_fits_all(l, o, method, methods)? {
+        results.push(method.signature.result)?;
+    }
+    Ok(TypeList::new(results))
+}
+
+/// Whether one of the results fits all others.
+#[tactic(auto, using(crate::proofs::MeetingSteps::meeting_steps))]
+fn read_some_fits(l: &Layout, o: &Oracle, results: &[Ty]) -> Result<bool, Stop<Query<JavaPred>>>
+    ensures { Reads (reply_to o.now) (some_fits l.now results.now results.now) result }
+{
+    for ty in results {
+        if read_fits_all(l, o, *ty, results)? {
             return Ok(true);
         }
     }
@@ -185,7 +138,8 @@ fn read_abstract_codes(
     if whole.len() != methods.len() {
         return Ok(codes);
     }
-    if read_some_fits(l, o, whole)? {
+    let results = results_of(alloc, whole)?;
+    if read_some_fits(l, o, results.as_slice())? {
         Ok(codes)
     } else {
         codes.with(Some(Clash::new(ClashKind::Result)))

@@ -16,13 +16,13 @@ use crate::above::read_method_rule;
 use crate::constructors::read_ctor_rule;
 use crate::declaring::member_diags;
 use crate::diag_lists::DiagLists;
-use crate::inherited::read_inherited_rule;
+use crate::inherited::read_all_groups;
 use crate::member_decl::{MemberDecl, own_members};
 use crate::placed::{PlacedDecl, put_in_place};
 use jv_diag::DiagList;
 use jv_instance::JavaPred;
 use jv_layout::{Declarations, Layout};
-use jv_names::Oracle;
+use jv_names::{Counts, Oracle, find_ends, for_any, kinds};
 use jv_tree::{Ident, Name, Names, TypeDecl};
 use sg_base::Scope;
 use sg_query::Query;
@@ -207,7 +207,7 @@ fn all_diags(
     Ok(all)
 }
 
-/// The diagnostics of members with their scopes.
+/// The diagnostics of members with their scopes. All methods of the type are asked for first.
 #[tactic(auto, using(crate::proofs::MemberSteps::member_steps))]
 fn read_check_by(
     alloc: Global,
@@ -223,8 +223,9 @@ fn read_check_by(
     requires { declarations.now ≡ l.now }
     ensures { Reads (reply_to o.now) (check_by l.now names.now ty type_name (map ids_of extends.now) (map placed_of placed.now)) result }
 {
+    let ends = find_ends(alloc, l, o, Counts::Methods, for_any(kinds::METHODS, ty))?;
     let overs = read_each_overrides(alloc, l, declarations, names, o, ty, type_name, placed)?;
-    let meets = read_inherited_rule(alloc, l, names, o, ty, type_name)?;
+    let meets = read_all_groups(alloc, l, names, o, ty, type_name, ends)?;
     let calls = read_each_calls(alloc, l, names, o, ty, extends, placed)?;
     let declared = placed_diags(alloc, l, declarations, names, ty, type_name, placed)?;
     all_diags(alloc, declared, overs, meets, calls)

@@ -342,7 +342,7 @@ fn unanswered(alloc: Global) -> Result<String, Fail> {
 #[test]
 fn a_missing_reply_is_named(rt: HostRuntime) -> Result<(), Fail> {
     let text = unanswered(rt.alloc())?;
-    assert_eq!(rt; text.as_str(), "needs 6 of 10");
+    assert_eq!(rt; text.as_str(), "needs 5 of 10");
     Ok(())
 }
 
