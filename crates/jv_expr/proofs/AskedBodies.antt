@@ -1,5 +1,5 @@
 -- All that is checked of members' bodies asks queries of the layout, whatever the answers.
-use Rattle.std.proofs.Common.{ℕ, false, List, [], ◌∷◌, ◌++◌, All, Option, Some, None, IfSome}
+use Rattle.std.proofs.Common.{ℕ, Bool, false, List, [], ◌∷◌, ◌++◌, All, Option, Some, None, IfSome}
 use Rattle.std.proofs.lemmas.List.Elements.{All-nil, All-cons, All-head, All-tail}
 use Rattle.sg_base.specs.declared.scope.Scope.{Scope}
 use Rattle.sg_reading.specs.Reading.{done, and_then}
@@ -20,7 +20,7 @@ use Rattle.jv_names.specs.Read.{SignatureOf, signature_of}
 use Rattle.jv_names.proofs.Bounds.{bodies_are_types, file_is_one}
 use Rattle.jv_names.proofs.ReadBounds.{instance_bodies_are_types, signatures_ask_in}
 use Rattle.jv_expr.specs.declared.local.Local.{Local}
-use Rattle.jv_expr.specs.Bodies.{body_by, call_site, ctor_body, ctor_rule, field_rule, given_result, member_instances, member_site, optional_body, param_types, params_declared, statements_checked, super_checked}
+use Rattle.jv_expr.specs.Bodies.{body_by, call_site, ctor_body, ctor_rule, field_rule, given_result, has_params, member_instances, member_site, needed_signature, needs_types, optional_body, param_types, params_declared, statements_checked, super_checked}
 use Rattle.jv_expr.specs.Bounds.{ConstructorsAskIn, FieldsAskIn, IsAnything, IsSiteIn, MethodsAskIn}
 use Rattle.jv_expr.specs.Calls.{super_called}
 use Rattle.jv_expr.specs.Fields.{result_of}
@@ -30,7 +30,7 @@ use Rattle.jv_expr.specs.Typed.{arguments_typed, init_typed}
 use Rattle.jv_expr.proofs.AskedCalls.{IsArgumentIn, IsSignatureIn, super_called_asks}
 use Rattle.jv_expr.proofs.AskedFields.{result_in}
 use Rattle.jv_expr.proofs.AskedStatements.{IsScopedIn, checked_asks, declared_in}
-use Rattle.jv_expr.proofs.AskedSteps.{cond_keeps, done_asks, then_asks}
+use Rattle.jv_expr.proofs.AskedSteps.{cond_asks, cond_keeps, done_asks, then_asks}
 use Rattle.jv_expr.proofs.AskedTyped.{AreFirstArgumentsIn, arguments_asks, init_asks}
 use Rattle.jv_expr.proofs.AskedVariables.{AreLocalsIn, IsLocalIn}
 
@@ -102,6 +102,10 @@ module _ (l : LayoutOf) (count : ℕ) (names : List (List ℕ)) (c : Scope) (ext
     signature_asks : AsksIn l count (IsSignatureIn l) (signature_of l m)
     signature_asks = signatures_ask_in l count m listed
 
+    needed_asks : (needed : Bool) → AsksIn l count (IsSignatureIn l) (needed_signature l m needed)
+    unfolding needed_signature
+    needed_asks needed = cond_asks l count (IsSignatureIn l) needed (signature_of l m) (done None) signature_asks (done_asks l count (IsSignatureIn l) None tt)
+
     field_asks : (x : Option InitTree) → IsNumberedOption count x → AsksIn l count IsAnything (field_rule l names c extends m x)
     field_asks None n = done_asks l count IsAnything [] tt
     field_asks (Some x) n =
@@ -117,7 +121,7 @@ module _ (l : LayoutOf) (count : ℕ) (names : List (List ℕ)) (c : Scope) (ext
     optional_asks : (d : MethodTree) (o : Option StmtTrees) → IsNumberedBody count o → AsksIn l count IsAnything (optional_body l names c extends m d o)
     optional_asks d None n = done_asks l count IsAnything [] tt
     optional_asks d (Some xs) n =
-        then_asks l count (IsSignatureIn l) IsAnything (signature_of l m) (λ s. body_by l names c extends m d.params xs s) signature_asks (λ s e. body_asks d.params xs s n e)
+        then_asks l count (IsSignatureIn l) IsAnything (needed_signature l m (needs_types d.params xs)) (λ s. body_by l names c extends m d.params xs s) (needed_asks (needs_types d.params xs)) (λ s e. body_asks d.params xs s n e)
 
     ctor_body_asks : (blanks : List Scope) (d : CtorTree) (s : Option SignatureOf) → IsNumberedCtor count d → IsSignatureIn l s → AsksIn l count IsAnything (ctor_body l names c extends blanks d s)
     ctor_body_asks blanks d s n e =
@@ -129,7 +133,7 @@ module _ (l : LayoutOf) (count : ℕ) (names : List (List ℕ)) (c : Scope) (ext
 
     ctor_asks : (blanks : List Scope) (d : CtorTree) → IsNumberedCtor count d → AsksIn l count IsAnything (ctor_rule l names c extends blanks m d)
     ctor_asks blanks d n =
-        then_asks l count (IsSignatureIn l) IsAnything (signature_of l m) (λ s. ctor_body l names c extends blanks d s) signature_asks (λ s e. ctor_body_asks blanks d s n e)
+        then_asks l count (IsSignatureIn l) IsAnything (needed_signature l m (has_params d.params)) (λ s. ctor_body l names c extends blanks d s) (needed_asks (has_params d.params)) (λ s e. ctor_body_asks blanks d s n e)
 
 -- ---- as laws
 

@@ -4,7 +4,7 @@ use Rattle.std.specs.List.{Contains}
 use Rattle.std.proofs.lemmas.List.Elements.{All-nil, All-head, All-tail, All-weaker, All-contains, All-contains_itself}
 use Rattle.sg_base.specs.declared.scope.Scope.{Scope}
 use Rattle.sg_reading.specs.Reading.{done, and_then, each}
-use Rattle.sg_reading.proofs.Asking.{each-asked, each-ends}
+use Rattle.sg_reading.proofs.Asking.{any_ends, each-asked, each-ends}
 use Rattle.jv_diag.specs.Plain.{DiagOf}
 use Rattle.jv_instance.specs.declared.labels.TheConstants.{METH, CTOR}
 use Rattle.jv_instance.specs.declared.ty.Ty.{Ty}
@@ -24,19 +24,20 @@ use Rattle.jv_names.specs.declared.meaning.Meaning.{Meaning}
 use Rattle.jv_names.specs.declared.meaning.Meaning.TheVariants.{One, Nothing, Ambiguous, TooMany as TooManyTypes}
 use Rattle.jv_names.specs.Access.{member_accessible}
 use Rattle.jv_names.specs.Bounds.{AreTypes, AsksIn, EndsOnly, IsBaseIn, IsMeant, IsMemberScope, IsReadIn, IsTyIn, IsTypeScope, MeansOnly}
+use Rattle.jv_names.specs.Chosen.{first_concrete, first_fitting, fits_all}
 use Rattle.jv_names.specs.Instances.{has_enclosing, instance_bodies}
 use Rattle.jv_names.specs.Members.{methods}
-use Rattle.jv_names.specs.Read.{SignatureOf, ctor_of, result_fits, signature_of}
+use Rattle.jv_names.specs.Read.{SignatureOf, ctor_of, signature_of}
 use Rattle.jv_names.specs.Superclass.{superclass}
 use Rattle.jv_names.proofs.Bounds.{methods_stay_in, object_is_type}
 use Rattle.jv_names.proofs.Listed.{member_is_listed}
-use Rattle.jv_names.proofs.ReadBounds.{ctors_ask_in, instance_bodies_are_types, instances_ask_in, results_ask_in, signatures_ask_in, superclasses_ask_in}
+use Rattle.jv_names.proofs.ReadBounds.{ctors_ask_in, fits_all_asks, instance_bodies_are_types, instances_ask_in, signatures_ask_in, superclasses_ask_in}
 use Rattle.jv_expr.specs.declared.argument.Argument.{Argument}
 use Rattle.jv_expr.specs.declared.value.Value.{Value}
 use Rattle.jv_expr.specs.declared.front.Front.{Front}
 use Rattle.jv_expr.specs.declared.front.Front.TheVariants.{Value as ValueFront, TypeName as TypeFront}
 use Rattle.jv_expr.specs.Bounds.{IsAnything, IsSiteIn}
-use Rattle.jv_expr.specs.Calls.{Manner, above_call, above_field, applied, applied_by, arguments_fit, bad_call, bad_super, bare_among, bare_call, bare_in, base_call, call_type, called_among, called_of, chosen, chosen_abstract, chosen_of, class_call, class_methods, class_text, class_type, ctor_call, ctor_called, first_concrete, first_fitting, fits_all, fits_or_bad, front_call, is_abstract_class, is_faulty_call, method_called, new_class, new_meant, or_objects, result_type, super_call, super_called, super_ctor, super_field, through, value_call, with_call, with_enclosing, with_super}
+use Rattle.jv_expr.specs.Calls.{Manner, above_call, above_field, applied, applied_by, arguments_fit, bad_call, bad_super, bare_among, bare_call, bare_in, base_call, call_type, called_among, called_of, chosen, chosen_abstract, chosen_of, class_call, class_methods, class_text, class_type, ctor_call, ctor_called, front_call, is_abstract_class, is_faulty_call, method_called, new_class, new_meant, or_objects, result_type, super_call, super_called, super_ctor, super_field, through, value_call, with_call, with_enclosing, with_super}
 use Rattle.jv_expr.specs.Checking.{Checking}
 use Rattle.jv_expr.specs.Fields.{class_field, result_of}
 use Rattle.jv_expr.specs.Operators.{assigned_to, bad_value, unless_faulty}
@@ -72,22 +73,15 @@ IsSignatureIn l o = IfSome o (IsReadIn l)
 -- ---- which of several methods is called
 
 module _ (l : LayoutOf) (count : ℕ) where
-  fits_or_bad_asks : (s t : Ty) → IsTyIn l s → AsksIn l count IsAnything (fits_or_bad l s t)
-  unfolding fits_or_bad
-  fits_or_bad_asks s t h = cond_asks l count IsAnything (is_bad s || is_bad t) (done true) (result_fits l s t) (done_asks l count IsAnything true tt) (results_ask_in l count s t h)
-
-  fits_all_asks : (t : Ty) (us : List Ty) → IsTyIn l t → AsksIn l count IsAnything (fits_all l t us)
-  fits_all_asks t [] h = done_asks l count IsAnything true tt
-  fits_all_asks t (u ∷ us) h =
-      then_asks l count IsAnything IsAnything (fits_or_bad l t u) (λ ok. cond ok (fits_all l t us) (done false)) (fits_or_bad_asks t u h)
-      (λ ok e. cond_asks l count IsAnything ok (fits_all l t us) (done false) (fits_all_asks t us h) (done_asks l count IsAnything false tt))
+  all_fit_asks : (t : Ty) (us : List Ty) → IsTyIn l t → AsksIn l count IsAnything (fits_all l t us)
+  all_fit_asks t us h = record { asks = fits_all_asks l count t us h; ends = any_ends (fits_all l t us) }
 
   module _ (P : Scope → Type 0) where
     first_fitting_asks : (all : List Ty) (m : Scope) (ks : List Scope) (ts : List Ty) → P m → All P ks → All (IsTyIn l) ts → AsksIn l count P (first_fitting l all m ks ts)
     first_fitting_asks all m [] ts h k e = done_asks l count P m h
     first_fitting_asks all m (n ∷ ks) [] h k e = done_asks l count P m h
     first_fitting_asks all m (n ∷ ks) (t ∷ ts) h k e =
-        then_asks l count IsAnything P (fits_all l t all) (λ ok. cond ok (done n) (first_fitting l all m ks ts)) (fits_all_asks t all (All-head (IsTyIn l) t ts e))
+        then_asks l count IsAnything P (fits_all l t all) (λ ok. cond ok (done n) (first_fitting l all m ks ts)) (all_fit_asks t all (All-head (IsTyIn l) t ts e))
         (λ ok u. cond_asks l count P ok (done n) (first_fitting l all m ks ts) (done_asks l count P n (All-head P n ks k))
         (first_fitting_asks all m ks ts h (All-tail P n ks k) (All-tail (IsTyIn l) t ts e)))
 

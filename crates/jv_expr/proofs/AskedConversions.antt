@@ -15,7 +15,7 @@ use Rattle.jv_names.proofs.ReadBounds.{supers_asks}
 use Rattle.jv_names.proofs.Listed.{type_is_listed}
 use Rattle.jv_types.specs.Conversion.{is_assignable}
 use Rattle.jv_expr.specs.Bounds.{IsAnything}
-use Rattle.jv_expr.specs.Conversions.{Sides, asks_supers, bare_sides, base_supers, fits, second_side, side, sides}
+use Rattle.jv_expr.specs.Conversions.{Sides, asks_supers, base_supers, fits, known_sides, known_supers, second_side, side, sides}
 use Rattle.jv_expr.specs.Operators.{assigned_to, with_misfit}
 use Rattle.jv_expr.specs.Site.{SiteOf}
 use Rattle.jv_expr.proofs.AskedSteps.{cond_asks, done_asks, then_asks}
@@ -34,9 +34,9 @@ module _ (l : LayoutOf) (count : ℕ) where
   pub fits_asks : (s t : Ty) → IsTyIn l s → AsksIn l count IsAnything (fits l s t)
   unfolding fits
   fits_asks s t h =
-      cond_asks l count IsAnything (asks_supers s t) _ _
+      cond_asks l count IsAnything (asks_supers l s t) _ _
       (then_asks l count IsAnything IsAnything (base_supers l s.base) (λ up. done (is_assignable up (object_scope l) s t)) (base_supers_asks s.base h) (λ up e. done_asks l count IsAnything (is_assignable up (object_scope l) s t) tt))
-      (done_asks l count IsAnything (is_assignable [] (object_scope l) s t) tt)
+      (done_asks l count IsAnything (is_assignable (known_supers l s.base) (object_scope l) s t) tt)
 
   -- two types of the layout
   abbrev pub AreSidesIn : Sides → Type 0
@@ -51,9 +51,9 @@ module _ (l : LayoutOf) (count : ℕ) where
     pub sides_asks : AsksIn l count AreSidesIn (sides l s t)
     unfolding sides
     sides_asks =
-        cond_asks l count AreSidesIn (asks_supers s t) (and_then (base_supers l s.base) (second_side l s t)) (done (bare_sides l s t))
+        cond_asks l count AreSidesIn (asks_supers l s t) (and_then (base_supers l s.base) (second_side l s t)) (done (known_sides l s t))
         (then_asks l count IsAnything AreSidesIn (base_supers l s.base) (second_side l s t) (base_supers_asks s.base h) (λ up e. second_asks up))
-        (done_asks l count AreSidesIn (bare_sides l s t) (h, k))
+        (done_asks l count AreSidesIn (known_sides l s t) (h, k))
 
 module _ (site : SiteOf) (count : ℕ) where
   pub assigned_asks : (at : ℕ) (found needed : Ty) (ds : List DiagOf) → IsTyIn site.layout found → AsksIn site.layout count IsAnything (assigned_to site at found needed ds)

@@ -17,7 +17,7 @@ use Rattle.jv_names.specs.Bounds.{AsksIn, IsBaseIn, IsTyIn, IsTypeScope}
 use Rattle.jv_expr.specs.declared.value.Value.{Value}
 use Rattle.jv_expr.specs.Bounds.{IsAnything}
 use Rattle.jv_expr.specs.Conversions.{Sides, bare_sides, sides}
-use Rattle.jv_expr.specs.Operators.{assign_compound, assign_on, assign_plain, assigned_to, bad_for, binary_on, cast_on, casted, choice_on, choice_text, choice_type, compares, compound_result, element_type, index_on, is_open, may_cast, operand_sides, operated, operator_of, operator_type, or_refused, simply_assigned, unary_on, unless_faulty, with_cast, with_target}
+use Rattle.jv_expr.specs.Operators.{assign_compound, assign_on, assign_plain, assigned_to, bad_for, binary_on, branch_sides, cast_on, casted, choice_by, choice_on, choice_text, choice_type, compares, compound_result, element_type, index_on, is_condition, is_open, may_cast, operand_sides, operated, operator_of, operator_type, or_refused, simply_assigned, unary_on, unless_faulty, with_cast, with_target}
 use Rattle.jv_expr.specs.Site.{SiteOf}
 use Rattle.jv_expr.proofs.AskedConversions.{AreSidesIn, assigned_asks, sides_asks}
 use Rattle.jv_expr.proofs.AskedSteps.{First, cond_asks, cond_keeps, done_asks, then_asks}
@@ -163,11 +163,16 @@ module _ (site : SiteOf) (count : ℕ) where
       cond_keeps (IsOptionIn L) (is_bad p.0.ty || is_bad p.1.ty) (Some bad_type) (cond (is_bad c) (bad_for o) (cond (is_type c boolean_type) o None)) tt
       (cond_keeps (IsOptionIn L) (is_bad c) (bad_for o) (cond (is_type c boolean_type) o None) (bad_in o) chosen)
 
+  branch_sides_asks : (c s t : Ty) → IsTyIn L s → IsTyIn L t → AsksIn L count (AreSidesIn L count) (branch_sides site c s t)
+  unfolding branch_sides
+  branch_sides_asks c s t h k =
+      cond_asks L count (AreSidesIn L count) (is_condition c) (sides L s t) (done (bare_sides L s t)) (sides_asks L count s t h k) (done_asks L count (AreSidesIn L count) (bare_sides L s t) (h, k))
+
   pub choice_asks : (at : ℕ) (c s t : Ty) (ds : List DiagOf) → IsTyIn L s → IsTyIn L t → AsksIn L count (First (IsTyIn L)) (choice_on site at c s t ds)
   unfolding choice_on
   choice_asks at c s t ds h k =
-      then_asks L count (AreSidesIn L count) (First (IsTyIn L)) (sides L s t) (λ p. done (or_refused (choice_type site c p) site at 17 (choice_text site c s t) ds)) (sides_asks L count s t h k)
-      (λ p e. done_asks L count (First (IsTyIn L)) (or_refused (choice_type site c p) site at 17 (choice_text site c s t) ds) (refused_in (choice_type site c p) at 17 (choice_text site c s t) ds (choice_in c p e)))
+      then_asks L count (AreSidesIn L count) (First (IsTyIn L)) (branch_sides site c s t) (λ p. done (choice_by site at c p ds)) (branch_sides_asks c s t h k)
+      (λ p e. done_asks L count (First (IsTyIn L)) (choice_by site at c p ds) (refused_in (choice_type site c p) at 17 (choice_text site c p.0.ty p.1.ty) ds (choice_in c p e)))
 
   -- ---- assignments
 

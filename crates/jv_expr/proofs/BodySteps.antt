@@ -20,11 +20,11 @@ use Rattle.jv_tree.specs.ExprTree.{InitTree}
 use Rattle.jv_tree.specs.StmtTree.{StmtTrees}
 use Rattle.jv_tree.specs.DeclTree.{ParamTree, CtorTree}
 use Rattle.jv_names.specs.Instances.{instance_bodies}
-use Rattle.jv_names.specs.Read.{SignatureOf, signature_of}
+use Rattle.jv_names.specs.Read.{SignatureOf}
 use Rattle.jv_names.specs.Replies.{Rule}
 use Rattle.jv_expr.specs.declared.begun_body.BegunBody.{BegunBody}
 use Rattle.jv_expr.specs.declared.local.Local.{Local}
-use Rattle.jv_expr.specs.Bodies.{body_by, ctor_body, ctor_call, ctor_rule, given_result, member_instances, member_site, param_types, params_declared, statements_checked, statements_rule, super_checked}
+use Rattle.jv_expr.specs.Bodies.{body_by, ctor_body, ctor_call, ctor_rule, given_result, has_params, member_instances, member_site, needed_signature, needs_types, param_types, params_declared, statements_checked, statements_rule, super_checked}
 use Rattle.jv_expr.specs.Fields.{result_of}
 use Rattle.jv_expr.specs.Progress.{IsBegun, begun_scope, behind, ctor_statements_left, left_of, method_statements_left, statements_left}
 use Rattle.jv_expr.specs.Site.{SiteOf}
@@ -104,15 +104,15 @@ module _ (reply : Query JavaPred → Option (Answer JavaDatum)) where
             if_some (λ d. (d.result ≡ b.result) × HasResidual reply (statements_left site xs b) (statements_left site xs d)) (λ d. HasResidual reply (left b) (left d)) o
             (λ d k. subst (λ (q : Rule (List DiagOf)). HasResidual reply q (left d)) (at_site b refl) (subst (λ (q : Rule (List DiagOf)). HasResidual reply (statements_left site xs b) q) (at_site d k.0) k.1)) h
 
-      -- from the start, behind the signature
-      module _ (ps : List ParamTree) (s : Option SignatureOf) (signed : Reads reply (signature_of l m) (Ok s)) (b : BegunBody) (begun : (ys : StmtTrees) → method_statements_left l names c extends m ys b ≡ body_by l names c extends m ps ys s) where
+      -- from the start, behind the signature, where it is needed
+      module _ (ps : List ParamTree) (s : Option SignatureOf) (signed : Reads reply (needed_signature l m (needs_types ps xs)) (Ok s)) (b : BegunBody) (begun : (ys : StmtTrees) → method_statements_left l names c extends m ys b ≡ body_by l names c extends m ps ys s) where
         pub start_case : (r : Result (List DiagOf) (Stop (Query JavaPred))) → Reads reply (left b) r → Reads reply (statements_rule l names c extends m ps xs) r
-        start_case r h = then_ok reply (signature_of l m) (λ s. body_by l names c extends m ps xs s) s r signed (subst (λ (q : Rule (List DiagOf)). Reads reply q r) (begun xs) h)
+        start_case r h = then_ok reply (needed_signature l m (needs_types ps xs)) (λ s. body_by l names c extends m ps xs s) s r signed (subst (λ (q : Rule (List DiagOf)). Reads reply q r) (begun xs) h)
 
         pub start_goes_on : (o : Option BegunBody) → IfSome o (λ d. HasResidual reply (left b) (left d)) → IfSome o (λ d. HasResidual reply (statements_rule l names c extends m ps xs) (left d))
         start_goes_on o h =
             if_some (λ d. HasResidual reply (left b) (left d)) (λ d. HasResidual reply (statements_rule l names c extends m ps xs) (left d)) o
-            (λ d k. residual_behind reply (signature_of l m) (λ s. body_by l names c extends m ps xs s) s (left d) signed (subst (λ (q : Rule (List DiagOf)). HasResidual reply q (left d)) (begun xs) k)) h
+            (λ d k. residual_behind reply (needed_signature l m (needs_types ps xs)) (λ s. body_by l names c extends m ps xs s) s (left d) signed (subst (λ (q : Rule (List DiagOf)). HasResidual reply q (left d)) (begun xs) k)) h
 
     -- ---- constructors
 
@@ -132,13 +132,13 @@ module _ (reply : Query JavaPred → Option (Answer JavaDatum)) where
             if_some (λ a. (a.result ≡ b.result) × HasResidual reply (statements_left site d.body b) (statements_left site d.body a)) (λ a. HasResidual reply (ctor_rest b) (ctor_rest a)) o
             (λ a k. subst (λ (q : Rule (List DiagOf)). HasResidual reply q (ctor_rest a)) (ctor_site b) (subst (λ (q : Rule (List DiagOf)). HasResidual reply (statements_left site d.body b) q) (ctor_site a) k.1)) h
 
-      -- from the start, behind the signature, the parameters and the super call
-      module _ (m : Scope) (s : Option SignatureOf) (signed : Reads reply (signature_of l m) (Ok s)) where
+      -- from the start, behind the signature, where it is needed, the parameters and the super call
+      module _ (m : Scope) (s : Option SignatureOf) (signed : Reads reply (needed_signature l m (has_params d.params)) (Ok s)) where
         abbrev behind_call : Scoped → Rule (List DiagOf)
         behind_call t = statements_checked (member_site l names c extends (c ∷ instance_bodies l c) blanks None) d.body t
 
         pub call_stops : (e : Stop (Query JavaPred)) → Reads {U = Scoped} reply (ctor_call l names c extends d s) (Err e) → Reads {U = List DiagOf} reply (ctor_rule l names c extends blanks m d) (Err e)
-        call_stops e h = then_ok reply (signature_of l m) (λ s. ctor_body l names c extends blanks d s) s (Err e) signed (then_err reply (ctor_call l names c extends d s) behind_call e h)
+        call_stops e h = then_ok reply (needed_signature l m (has_params d.params)) (λ s. ctor_body l names c extends blanks d s) s (Err e) signed (then_err reply (ctor_call l names c extends d s) behind_call e h)
 
         module _ (b : BegunBody) (none : b.count ≡ 0) (called : Reads {U = Scoped} reply (ctor_call l names c extends d s) (Ok (b.locals.items, b.diags))) where
           all_left : behind_call (b.locals.items, b.diags) ≡ ctor_rest b
@@ -146,14 +146,14 @@ module _ (reply : Query JavaPred → Option (Answer JavaDatum)) where
 
           pub ctor_starts : (r : Result (List DiagOf) (Stop (Query JavaPred))) → Reads reply (ctor_rest b) r → Reads reply (ctor_rule l names c extends blanks m d) r
           ctor_starts r h =
-              then_ok reply (signature_of l m) (λ s. ctor_body l names c extends blanks d s) s r signed
+              then_ok reply (needed_signature l m (has_params d.params)) (λ s. ctor_body l names c extends blanks d s) s r signed
               (then_ok reply (ctor_call l names c extends d s) behind_call (b.locals.items, b.diags) r called (subst (λ (q : Rule (List DiagOf)). Reads reply q r) (sym all_left) h))
 
           pub ctor_starts_on : (o : Option BegunBody) → IfSome o (λ a. HasResidual reply (ctor_rest b) (ctor_rest a)) → IfSome o (λ a. HasResidual reply (ctor_rule l names c extends blanks m d) (ctor_rest a))
           ctor_starts_on o h =
               if_some (λ a. HasResidual reply (ctor_rest b) (ctor_rest a)) (λ a. HasResidual reply (ctor_rule l names c extends blanks m d) (ctor_rest a)) o
               (λ a k.
-              residual_behind reply (signature_of l m) (λ s. ctor_body l names c extends blanks d s) s (ctor_rest a) signed
+              residual_behind reply (needed_signature l m (has_params d.params)) (λ s. ctor_body l names c extends blanks d s) s (ctor_rest a) signed
               (residual_behind reply (ctor_call l names c extends d s) behind_call (b.locals.items, b.diags) (ctor_rest a) called (subst (λ (q : Rule (List DiagOf)). HasResidual reply q (ctor_rest a)) (sym all_left) k))) h
 
     -- the super call, behind the parameters

@@ -12,6 +12,7 @@ pub mod Effects
 pub mod Declared
 pub mod StatementCases
 pub mod StatementLists
+pub mod ReturnSteps
 pub mod AskedSteps
 pub mod AskedConversions
 pub mod AskedOperators

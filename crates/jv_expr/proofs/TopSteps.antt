@@ -1,5 +1,5 @@
 -- The statements at the top of a body, one after another.
-use Rattle.std.proofs.Common.{◌≡◌, ℕ, zero, suc, false, ◌+◌, ◌<◌, ◌≤◌, List, [], ◌∷◌, ◌++◌, Option, Some, None, IfSome, Result, Ok, Err, length, get_or, refl, sym, ap, ◌∙◌, subst, arith, add-one}
+use Rattle.std.proofs.Common.{◌≡◌, ℕ, zero, suc, false, ◌+◌, ◌<◌, ◌≤◌, List, [], ◌∷◌, ◌++◌, Option, Ok, Err, length, get_or, refl, sym, ap, ◌∙◌, subst, arith, add-one}
 use Rattle.sg_query.specs.declared.answer.Answer.{Answer}
 use Rattle.sg_query.specs.declared.query.Query.{Query}
 use Rattle.sg_reading.specs.declared.stop.Stop.{Stop}
@@ -19,8 +19,7 @@ use Rattle.jv_names.specs.Replies.{Rule}
 use Rattle.jv_expr.specs.declared.begun_body.BegunBody.{BegunBody}
 use Rattle.jv_expr.specs.declared.local.Local.{Local}
 use Rattle.jv_expr.specs.Bodies.{statements_checked}
-use Rattle.jv_expr.specs.Locals.{AddsLocals}
-use Rattle.jv_expr.specs.Progress.{IsBegun, behind, left_of, statements_left, top_checked}
+use Rattle.jv_expr.specs.Progress.{IsBegun, behind, statements_left, top_checked}
 use Rattle.jv_expr.specs.Site.{SiteOf}
 use Rattle.jv_expr.specs.Statements.{Scoped, checked}
 use Rattle.jv_expr.proofs.Locals.{adds_cut}

@@ -1,5 +1,5 @@
 -- The diagnostics of the bodies of methods and constructors, and of the initializers of fields (JLS 8.3.2, 8.4.7, 8.8.7).
-use Rattle.std.specs.Prelude.{ℕ, false, cond, List, [], ◌∷◌, ◌++◌, Option, None, Some}
+use Rattle.std.specs.Prelude.{ℕ, ◌||◌, Bool, true, false, cond, List, [], ◌∷◌, ◌++◌, Option, None, Some}
 use Rattle.sg_base.specs.declared.scope.Scope.{Scope}
 use Rattle.sg_reading.specs.Reading.{done, and_then}
 use Rattle.jv_diag.specs.Plain.{DiagOf}
@@ -18,6 +18,7 @@ use Rattle.jv_names.specs.Replies.{Rule}
 use Rattle.jv_expr.specs.declared.local.Local.{Local}
 use Rattle.jv_expr.specs.Calls.{super_called}
 use Rattle.jv_expr.specs.Fields.{result_of}
+use Rattle.jv_expr.specs.Returns.{some_return}
 use Rattle.jv_expr.specs.Site.{SiteOf}
 use Rattle.jv_expr.specs.Statements.{Scoped, checked, declared}
 use Rattle.jv_expr.specs.Typed.{arguments_typed, init_typed}
@@ -41,6 +42,21 @@ member_site l names c extends instances blanks result = record {
   blanks = blanks;
   result = result;
 }
+
+-- ---- what a body needs of its member
+
+-- there are parameters
+abbrev pub has_params : List ParamTree → Bool
+has_params [] = false
+has_params (p ∷ ps) = true
+
+-- the body of a method needs the types of its parameters, and the result where a `return` stands in it
+abbrev pub needs_types : List ParamTree → StmtTrees → Bool
+needs_types ps xs = has_params ps || some_return xs
+
+-- the signature of a member whose body needs its types; another one is not read
+unfoldable pub needed_signature : LayoutOf → Scope → Bool → Rule (Option SignatureOf)
+needed_signature l m needed = cond needed (signature_of l m) (done None)
 
 -- ---- parameters (JLS 8.4.1)
 
@@ -68,14 +84,14 @@ statements_checked site (stmts x xs) s = and_then (checked site false x s.0 []) 
 abbrev pub given_result : Option SignatureOf → Option Ty
 given_result s = cond (is_void (result_of s)) None (Some (result_of s))
 
--- a body whose signature is known
+-- a body whose signature is known, or not needed
 abbrev pub body_by : LayoutOf → List (List ℕ) → Scope → List (List Ident) → Scope → List ParamTree → StmtTrees → Option SignatureOf → Rule (List DiagOf)
 body_by l names c extends m ps xs s =
     statements_checked (member_site l names c extends (member_instances l c m) [] (given_result s)) xs (params_declared (member_site l names c extends (member_instances l c m) [] (given_result s)) ps (param_types s) [] [])
 
 -- the statements of a method
 abbrev pub statements_rule : LayoutOf → List (List ℕ) → Scope → List (List Ident) → Scope → List ParamTree → StmtTrees → Rule (List DiagOf)
-statements_rule l names c extends m ps xs = and_then (signature_of l m) (λ s. body_by l names c extends m ps xs s)
+statements_rule l names c extends m ps xs = and_then (needed_signature l m (needs_types ps xs)) (λ s. body_by l names c extends m ps xs s)
 
 -- the body of a method; a method without one has nothing to check
 abbrev pub optional_body : LayoutOf → List (List ℕ) → Scope → List (List Ident) → Scope → MethodTree → Option StmtTrees → Rule (List DiagOf)
@@ -119,4 +135,4 @@ method_rule l names c extends m d = optional_body l names c extends m d d.body
 
 -- a constructor, which may assign these blank fields
 abbrev pub ctor_rule : LayoutOf → List (List ℕ) → Scope → List (List Ident) → List Scope → Scope → CtorTree → Rule (List DiagOf)
-ctor_rule l names c extends blanks m d = and_then (signature_of l m) (λ s. ctor_body l names c extends blanks d s)
+ctor_rule l names c extends blanks m d = and_then (needed_signature l m (has_params d.params)) (λ s. ctor_body l names c extends blanks d s)

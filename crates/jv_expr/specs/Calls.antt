@@ -18,9 +18,10 @@ use Rattle.jv_names.specs.declared.ends.Ends.TheVariants.{Scopes, TooMany}
 use Rattle.jv_names.specs.declared.meaning.Meaning.{Meaning}
 use Rattle.jv_names.specs.declared.meaning.Meaning.TheVariants.{One, Nothing, Ambiguous, TooMany as TooManyTypes}
 use Rattle.jv_names.specs.Access.{member_accessible}
+use Rattle.jv_names.specs.Chosen.{first_concrete, first_fitting}
 use Rattle.jv_names.specs.Instances.{has_enclosing, instance_bodies}
 use Rattle.jv_names.specs.Members.{methods}
-use Rattle.jv_names.specs.Read.{SignatureOf, ctor_of, result_fits, signature_of}
+use Rattle.jv_names.specs.Read.{SignatureOf, ctor_of, signature_of}
 use Rattle.jv_names.specs.Replies.{Rule}
 use Rattle.jv_names.specs.Superclass.{superclass}
 use Rattle.jv_expr.specs.declared.argument.Argument.{Argument}
@@ -56,29 +57,9 @@ applied site at text as' s ds = applied_by site at text as' s ds
 
 -- ---- which of several methods is called (JLS 15.12.2.5)
 
--- a result fits another one, or one of the two is bad
-unfoldable pub fits_or_bad : LayoutOf → Ty → Ty → Rule Bool
-fits_or_bad l s t = cond (is_bad s || is_bad t) (done true) (result_fits l s t)
-
--- a result fits each of some others
-abbrev pub fits_all : LayoutOf → Ty → List Ty → Rule Bool
-fits_all l t [] = done true
-fits_all l t (u ∷ us) = and_then (fits_or_bad l t u) (λ ok. cond ok (fits_all l t us) (done false))
-
--- the first method whose result fits those of all; where there is none, this one
-abbrev pub first_fitting : LayoutOf → List Ty → Scope → List Scope → List Ty → Rule Scope
-first_fitting l all m [] ts = done m
-first_fitting l all m (k ∷ ks) [] = done m
-first_fitting l all m (k ∷ ks) (t ∷ ts) = and_then (fits_all l t all) (λ ok. cond ok (done k) (first_fitting l all m ks ts))
-
 -- the types of methods by their signatures
 abbrev pub result_type : LayoutOf → Scope → Rule Ty
 result_type l m = and_then (signature_of l m) (λ s. done (result_of s))
-
--- the first method that is not abstract
-abbrev pub first_concrete : LayoutOf → List Scope → Option Scope
-first_concrete l [] = None
-first_concrete l (m ∷ ms) = cond (is_abstract_of l m) (first_concrete l ms) (Some m)
 
 -- the one that is not abstract, where one was found; else the least whose result fits those of all, and else the least
 abbrev pub chosen_abstract : LayoutOf → Scope → List Scope → Option Scope → Rule Scope

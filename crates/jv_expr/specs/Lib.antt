@@ -2,6 +2,7 @@ pub mod Site
 pub mod Checking
 pub mod Conversions
 pub mod Operators
+pub mod Marks
 pub mod Fields
 pub mod Variables
 pub mod Calls
@@ -10,6 +11,7 @@ pub mod Statements
 pub mod Branches
 pub mod StatementParts
 pub mod ParamTypes
+pub mod Returns
 pub mod Bodies
 pub mod Locals
 pub mod Progress

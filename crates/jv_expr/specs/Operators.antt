@@ -51,9 +51,13 @@ with_misfit ok site at found needed ds = with_fault_if (not ok) site at 45 (type
 unfoldable pub assigned_to : SiteOf → ℕ → Ty → Ty → List DiagOf → Rule (List DiagOf)
 assigned_to site at found needed ds = and_then (fits site.layout found needed) (λ ok. done (with_misfit ok site at found needed ds))
 
--- a condition is boolean (JLS 14.9, 14.12 to 14.14)
+-- a condition is boolean; of a bad one nothing is said
+abbrev pub is_condition : Ty → Bool
+is_condition t = is_bad t || is_type t boolean_type
+
+-- the condition of a statement is such a one (JLS 14.9, 14.12 to 14.14)
 abbrev pub with_condition : SiteOf → ℕ → Ty → List DiagOf → List DiagOf
-with_condition site at t ds = with_misfit (is_bad t || is_type t boolean_type) site at t boolean_type ds
+with_condition site at t ds = with_misfit (is_condition t) site at t boolean_type ds
 
 -- a number that is promoted to int, as a size of an array and an index are (JLS 10.4, 15.10)
 abbrev pub is_index : Ty → Bool
@@ -155,7 +159,7 @@ cast_on site at t s ds = and_then (sides site.layout s t) (λ p. done (casted si
 
 -- what the diagnostic of a conditional names: the type of a condition that is neither boolean nor bad, and else those of the branches
 abbrev pub choice_text : SiteOf → Ty → Ty → Ty → List ℕ
-choice_text site c s t = cond (is_bad c || is_type c boolean_type) (both_texts site s t) (type_text site c)
+choice_text site c s t = cond (is_condition c) (both_texts site s t) (type_text site c)
 
 -- bad in place of a type
 abbrev pub bad_for : Option Ty → Option Ty
@@ -168,13 +172,17 @@ choice_type site c p =
     cond (is_bad p.0.ty || is_bad p.1.ty) (Some bad_type)
     (cond (is_bad c) (bad_for (conditional_type p.0 p.1 (object_scope site.layout))) (cond (is_type c boolean_type) (conditional_type p.0 p.1 (object_scope site.layout)) None))
 
+-- the branches of a conditional: with their supertypes where its condition is boolean or bad, and else without
+unfoldable pub branch_sides : SiteOf → Ty → Ty → Ty → Rule Sides
+branch_sides site c s t = cond (is_condition c) (sides site.layout s t) (done (bare_sides site.layout s t))
+
 -- a conditional by what is known of its branches
-abbrev pub choice_by : SiteOf → ℕ → Ty → Ty → Ty → Sides → List DiagOf → Ty × List DiagOf
-choice_by site at c s t p ds = or_refused (choice_type site c p) site at 17 (choice_text site c s t) ds
+abbrev pub choice_by : SiteOf → ℕ → Ty → Sides → List DiagOf → Ty × List DiagOf
+choice_by site at c p ds = or_refused (choice_type site c p) site at 17 (choice_text site c p.0.ty p.1.ty) ds
 
 -- a conditional at an offset, by the types of its condition and of its branches
 unfoldable pub choice_on : SiteOf → ℕ → Ty → Ty → Ty → List DiagOf → Checking Ty
-choice_on site at c s t ds = and_then (sides site.layout s t) (λ p. done (choice_by site at c s t p ds))
+choice_on site at c s t ds = and_then (branch_sides site c s t) (λ p. done (choice_by site at c p ds))
 
 -- ---- indexes (JLS 15.10.3)
 

@@ -1,12 +1,11 @@
 -- Where an expression or a statement stands, and what is known there.
-use Rattle.std.specs.Prelude.{ℕ, ◌&&◌, not, Bool, List, [], ◌∷◌, ◌++◌, Option, cond}
+use Rattle.std.specs.Prelude.{ℕ, Bool, List, [], ◌∷◌, ◌++◌, Option, cond}
 use Rattle.std.specs.List.{list_any}
 use Rattle.sg_base.specs.declared.scope.Scope.{Scope}
 use Rattle.sg_base.specs.Scope.{is_scope}
 use Rattle.jv_diag.specs.Plain.{DiagOf, diagnostic}
 use Rattle.jv_instance.specs.declared.ty.Ty.{Ty}
 use Rattle.jv_layout.specs.Folder.{LayoutOf, text_of}
-use Rattle.jv_layout.specs.Readers.{is_interface_of}
 use Rattle.jv_layout.specs.Titles.{type_text as text_of_type, title_of}
 use Rattle.jv_tree.specs.declared.name.Ident.{Ident}
 

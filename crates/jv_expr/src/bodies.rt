@@ -11,7 +11,7 @@ ghost use Rattle.jv_tree.specs.TypeTree.{ids_of};
 ghost use Rattle.jv_names.specs.Bodies.{member_bodies};
 ghost use Rattle.jv_names.specs.Instances.{instance_bodies};
 ghost use Rattle.jv_names.specs.Replies.{reply_to};
-ghost use Rattle.jv_expr.specs.Bodies.{ctor_call, ctor_rule, field_rule, init_by, member_instances, member_site, method_rule, params_declared, statements_rule, super_checked};
+ghost use Rattle.jv_expr.specs.Bodies.{ctor_call, ctor_rule, field_rule, has_params, init_by, member_instances, member_site, method_rule, needed_signature, needs_types, params_declared, statements_rule, super_checked};
 ghost use Rattle.jv_expr.specs.Checking.{ReadsScope};
 ghost use Rattle.jv_expr.specs.Progress.{begun_scope, ctor_statements_left, IsBegun, IsBodySoFar, IsCtorSoFar, IsFurther, IsMethodBegun, IsMethodSoFar, method_statements_left};
 ghost use Rattle.jv_expr.specs.Sites.{site_of};
@@ -22,7 +22,9 @@ use crate::calls::check_super_constructor;
 use crate::expressions::{check_arguments, check_init};
 use crate::local::Local;
 use crate::need::Need;
+use crate::owner::Owner;
 use crate::params::{declare_params, given_result, param_types, result_of};
+use crate::returns::some_return;
 use crate::site::Site;
 use crate::top_statements::go_on;
 use jv_diag::DiagList;
@@ -63,50 +65,86 @@ fn member_instances(
 
 /// The place of what stands in the body of a type.
 fn site_at<'a>(
-    l: &'a Layout,
-    n: &'a Names,
+    owner: &'a Owner<'_>,
     spot: &'a Spot,
-    ty: Scope,
     instances: &'a [Scope],
-    extends: &'a [Name],
     blanks: &'a [Scope],
     given: Option<Ty>,
 ) -> Site<'a>
-    requires file { spot.now.file ≡ file_of l.now ty }
-    requires inside { spot.now.inside.items ≡ member_bodies l.now ty }
-    ensures value { site_of result ≡ member_site l.now n.now ty (map ids_of extends.now) instances.now blanks.now given }
+    requires file { spot.now.file ≡ file_of owner.now.layout.now owner.now.ty }
+    requires inside { spot.now.inside.items ≡ member_bodies owner.now.layout.now owner.now.ty }
+    ensures value { site_of result ≡ member_site owner.now.layout.now owner.now.names.now owner.now.ty (map ids_of owner.now.extends.now) instances.now blanks.now given }
     ensures file { result.spot.now.file ≡ spot.now.file }
 {
     Site {
-        layout: l,
-        names: n,
+        layout: owner.layout,
+        names: owner.names,
         spot,
-        class: ty,
+        class: owner.ty,
         instances,
-        extends,
+        extends: owner.extends,
         blanks,
         result: given,
     }
+}
+
+/// Whether there are parameters.
+fn has_params(params: &[Param]) -> bool
+    ensures { result ≡ has_params (map param_tree params.now) }
+{
+    matches!(params, [_, ..])
+}
+
+/// The signature of a method, where its body needs the types of its parameters or its result.
+#[tactic(auto, using(sg_reading::proofs::Steps::reading_steps), unfolding(crate::specs::Bodies::needed_signature))]
+fn read_method_signature(
+    alloc: Global,
+    l: &Layout,
+    o: &Oracle,
+    member: Scope,
+    params: &[Param],
+    ss: &[Stmt],
+) -> Result<Option<ReadSignature>, Need>
+    ensures { Reads (reply_to o.now) (needed_signature l.now member (needs_types (map param_tree params.now) (stmt_trees ss.now))) result }
+{
+    if has_params(params) || some_return(ss) {
+        return read_signature_of(alloc, l, o, member);
+    }
+    Ok(None)
+}
+
+/// The signature of a constructor, where its body needs the types of its parameters.
+#[tactic(auto, using(sg_reading::proofs::Steps::reading_steps), unfolding(crate::specs::Bodies::needed_signature))]
+fn read_ctor_signature(
+    alloc: Global,
+    l: &Layout,
+    o: &Oracle,
+    member: Scope,
+    ctor: &Ctor,
+) -> Result<Option<ReadSignature>, Need>
+    ensures { Reads (reply_to o.now) (needed_signature l.now member (has_params (ctor_tree ctor.now).params)) result }
+{
+    if has_params(ctor.params.as_slice()) {
+        return read_signature_of(alloc, l, o, member);
+    }
+    Ok(None)
 }
 
 /// The initializer of a field with this signature.
 #[tactic(auto, using(crate::proofs::BodySteps::init_steps))]
 fn read_init_by(
     alloc: Global,
-    l: &Layout,
-    n: &Names,
+    owner: &Owner<'_>,
     o: &Oracle,
-    ty: Scope,
-    extends: &[Name],
     member: Scope,
     init: &Init,
     s: &Option<ReadSignature>,
 ) -> Result<DiagList, Need>
-    ensures { Reads (reply_to o.now) (init_by l.now n.now ty (map ids_of extends.now) member (init_tree init.now) s.now) result }
+    ensures { Reads (reply_to o.now) (init_by owner.now.layout.now owner.now.names.now owner.now.ty (map ids_of owner.now.extends.now) member (init_tree init.now) s.now) result }
 {
-    let spot = Spot::of_body(alloc, l, ty)?;
-    let instances = member_instances(alloc, l, ty, member)?;
-    let site = site_at(l, n, &spot, ty, instances.as_slice(), extends, &[], None);
+    let spot = Spot::of_body(alloc, owner.layout, owner.ty)?;
+    let instances = member_instances(alloc, owner.layout, owner.ty, member)?;
+    let site = site_at(owner, &spot, instances.as_slice(), &[], None);
     let mut ds = DiagList::empty(alloc);
     check_init(alloc, &site, o, &[], result_of(s), init, &mut ds)?;
     Ok(ds)
@@ -116,18 +154,15 @@ fn read_init_by(
 #[tactic(auto, using(sg_reading::proofs::Steps::reading_steps))]
 fn read_init(
     alloc: Global,
-    l: &Layout,
-    n: &Names,
+    owner: &Owner<'_>,
     o: &Oracle,
-    ty: Scope,
-    extends: &[Name],
     member: Scope,
     init: &Init,
 ) -> Result<DiagList, Need>
-    ensures { Reads (reply_to o.now) (field_rule l.now n.now ty (map ids_of extends.now) member (Some (init_tree init.now))) result }
+    ensures { Reads (reply_to o.now) (field_rule owner.now.layout.now owner.now.names.now owner.now.ty (map ids_of owner.now.extends.now) member (Some (init_tree init.now))) result }
 {
-    let s = read_signature_of(alloc, l, o, member)?;
-    read_init_by(alloc, l, n, o, ty, extends, member, init, &s)
+    let s = read_signature_of(alloc, owner.layout, o, member)?;
+    read_init_by(alloc, owner, o, member, init, &s)
 }
 
 /// What is wrong in the initializer of a field of a type, as far as the replies tell it, or the first query that has no reply (JLS
@@ -145,9 +180,15 @@ pub fn read_field_init(
 ) -> Result<DiagList, Need>
     ensures { Reads (reply_to o.now) (field_rule l.now n.now ty (map ids_of extends.now) member (var_tree var.now).init) result }
 {
+    let owner = Owner {
+        layout: l,
+        names: n,
+        ty,
+        extends,
+    };
     match &var.init {
         None => Ok(DiagList::empty(alloc)),
-        Some(init) => read_init(alloc, l, n, o, ty, extends, member, init),
+        Some(init) => read_init(alloc, &owner, o, member, init),
     }
 }
 
@@ -176,20 +217,17 @@ fn begin_body(
 #[tactic(auto, using(crate::proofs::BodySteps::begin_steps))]
 fn begin_method(
     alloc: Global,
-    l: &Layout,
-    n: &Names,
-    ty: Scope,
-    extends: &[Name],
+    owner: &Owner<'_>,
     member: Scope,
     params: &[Param],
     s: &Option<ReadSignature>,
 ) -> Result<BegunBody, AllocError>
-    ensures { IfOk result (IsMethodBegun l.now n.now ty (map ids_of extends.now) member (map param_tree params.now) s.now) }
+    ensures { IfOk result (IsMethodBegun owner.now.layout.now owner.now.names.now owner.now.ty (map ids_of owner.now.extends.now) member (map param_tree params.now) s.now) }
 {
-    let spot = Spot::of_body(alloc, l, ty)?;
-    let instances = member_instances(alloc, l, ty, member)?;
+    let spot = Spot::of_body(alloc, owner.layout, owner.ty)?;
+    let instances = member_instances(alloc, owner.layout, owner.ty, member)?;
     let given = given_result(s);
-    let site = site_at(l, n, &spot, ty, instances.as_slice(), extends, &[], given);
+    let site = site_at(owner, &spot, instances.as_slice(), &[], given);
     begin_body(alloc, &site, params, param_types(s))
 }
 
@@ -197,33 +235,21 @@ fn begin_method(
 #[tactic(auto, using(crate::proofs::BodySteps::method_steps))]
 fn go_on_method(
     alloc: Global,
-    l: &Layout,
-    n: &Names,
+    owner: &Owner<'_>,
     o: &Oracle,
-    ty: Scope,
-    extends: &[Name],
     member: Scope,
     ss: &[Stmt],
     body: BegunBody,
     progress: &mut BodyProgress,
 ) -> Result<DiagList, Need>
     requires { progress.old.begun ≡ None }
-    ensures reads { Reads (reply_to o.now) (method_statements_left l.now n.now ty (map ids_of extends.now) member (stmt_trees ss.now) body) result }
-    ensures left { IfSome progress.new.begun (IsFurther o.now (method_statements_left l.now n.now ty (map ids_of extends.now) member (stmt_trees ss.now)) body) }
+    ensures reads { Reads (reply_to o.now) (method_statements_left owner.now.layout.now owner.now.names.now owner.now.ty (map ids_of owner.now.extends.now) member (stmt_trees ss.now) body) result }
+    ensures left { IfSome progress.new.begun (IsFurther o.now (method_statements_left owner.now.layout.now owner.now.names.now owner.now.ty (map ids_of owner.now.extends.now) member (stmt_trees ss.now)) body) }
     ensures new { OnOk result (progress.new.begun ≡ None) }
 {
-    let spot = Spot::of_body(alloc, l, ty)?;
-    let instances = member_instances(alloc, l, ty, member)?;
-    let site = site_at(
-        l,
-        n,
-        &spot,
-        ty,
-        instances.as_slice(),
-        extends,
-        &[],
-        body.result,
-    );
+    let spot = Spot::of_body(alloc, owner.layout, owner.ty)?;
+    let instances = member_instances(alloc, owner.layout, owner.ty, member)?;
+    let site = site_at(owner, &spot, instances.as_slice(), &[], body.result);
     go_on(alloc, &site, o, ss, body, progress)
 }
 
@@ -231,54 +257,49 @@ fn go_on_method(
 #[tactic(auto, using(crate::proofs::BodySteps::method_steps))]
 fn start_method(
     alloc: Global,
-    l: &Layout,
-    n: &Names,
+    owner: &Owner<'_>,
     o: &Oracle,
-    ty: Scope,
-    extends: &[Name],
     member: Scope,
     params: &[Param],
     ss: &[Stmt],
     progress: &mut BodyProgress,
 ) -> Result<DiagList, Need>
     requires { progress.old.begun ≡ None }
-    ensures reads { Reads (reply_to o.now) (statements_rule l.now n.now ty (map ids_of extends.now) member (map param_tree params.now) (stmt_trees ss.now)) result }
-    ensures left { IfSome progress.new.begun (λ b. IsBodySoFar o.now l.now n.now ty (map ids_of extends.now) member (map param_tree params.now) (stmt_trees ss.now) (Some b)) }
+    ensures reads { Reads (reply_to o.now) (statements_rule owner.now.layout.now owner.now.names.now owner.now.ty (map ids_of owner.now.extends.now) member (map param_tree params.now) (stmt_trees ss.now)) result }
+    ensures left { IfSome progress.new.begun (λ b. IsBodySoFar o.now owner.now.layout.now owner.now.names.now owner.now.ty (map ids_of owner.now.extends.now) member (map param_tree params.now) (stmt_trees ss.now) (Some b)) }
     ensures new { OnOk result (progress.new.begun ≡ None) }
 {
-    let s = read_signature_of(alloc, l, o, member)?;
-    let body = begin_method(alloc, l, n, ty, extends, member, params, &s)?;
-    go_on_method(alloc, l, n, o, ty, extends, member, ss, body, progress)
+    let s = read_method_signature(alloc, owner.layout, o, member, params, ss)?;
+    let body = begin_method(alloc, owner, member, params, &s)?;
+    go_on_method(alloc, owner, o, member, ss, body, progress)
 }
 
 /// What is wrong in the body of a method, by how far its check came.
 #[tactic(auto, using(crate::proofs::BodySteps::method_steps))]
 fn read_body(
     alloc: Global,
-    l: &Layout,
-    n: &Names,
+    owner: &Owner<'_>,
     o: &Oracle,
-    ty: Scope,
-    extends: &[Name],
     member: Scope,
     params: &[Param],
     ss: &[Stmt],
     progress: &mut BodyProgress,
 ) -> Result<DiagList, Need>
-    requires { IsBodySoFar o.now l.now n.now ty (map ids_of extends.now) member (map param_tree params.now) (stmt_trees ss.now) progress.old.begun }
-    ensures reads { Reads (reply_to o.now) (statements_rule l.now n.now ty (map ids_of extends.now) member (map param_tree params.now) (stmt_trees ss.now)) result }
-    ensures left { IsBodySoFar o.now l.now n.now ty (map ids_of extends.now) member (map param_tree params.now) (stmt_trees ss.now) progress.new.begun }
+    requires { IsBodySoFar o.now owner.now.layout.now owner.now.names.now owner.now.ty (map ids_of owner.now.extends.now) member (map param_tree params.now) (stmt_trees ss.now) progress.old.begun }
+    ensures reads { Reads (reply_to o.now) (statements_rule owner.now.layout.now owner.now.names.now owner.now.ty (map ids_of owner.now.extends.now) member (map param_tree params.now) (stmt_trees ss.now)) result }
+    ensures left { IsBodySoFar o.now owner.now.layout.now owner.now.names.now owner.now.ty (map ids_of owner.now.extends.now) member (map param_tree params.now) (stmt_trees ss.now) progress.new.begun }
     ensures new { OnOk result (progress.new.begun ≡ None) }
 {
     match progress.take() {
-        None => start_method(alloc, l, n, o, ty, extends, member, params, ss, progress),
-        Some(body) => go_on_method(alloc, l, n, o, ty, extends, member, ss, body, progress),
+        None => start_method(alloc, owner, o, member, params, ss, progress),
+        Some(body) => go_on_method(alloc, owner, o, member, ss, body, progress),
     }
 }
 
 /// What is wrong in the body of a method of a type (JLS 8.4.7), as far as the replies tell it, or the first query that has no
 /// reply. The check goes on from where the progress says that it came to, and leaves there how far it came: where a reply is missing,
 /// the statements before the one at the top of the body that asked for it are not read again. With the diagnostics nothing is begun.
+/// The method's own signature is read where it has parameters, or a `return` stands in its body.
 #[tactic(auto, using(crate::proofs::BodySteps::method_steps))]
 pub fn read_method_body(
     alloc: Global,
@@ -296,6 +317,12 @@ pub fn read_method_body(
     ensures left { IsMethodSoFar o.now l.now n.now ty (map ids_of extends.now) member (method_tree method.now) progress.new }
     ensures new { OnOk result (progress.new.begun ≡ None) }
 {
+    let owner = Owner {
+        layout: l,
+        names: n,
+        ty,
+        extends,
+    };
     match &method.body {
         None => {
             *progress = BodyProgress::new();
@@ -303,11 +330,8 @@ pub fn read_method_body(
         }
         Some(ss) => read_body(
             alloc,
-            l,
-            n,
+            &owner,
             o,
-            ty,
-            extends,
             member,
             method.params.as_slice(),
             ss.as_slice(),
@@ -343,20 +367,17 @@ fn check_super(
 #[tactic(auto, using(crate::proofs::BodySteps::begin_steps))]
 fn begin_ctor(
     alloc: Global,
-    l: &Layout,
-    n: &Names,
+    owner: &Owner<'_>,
     o: &Oracle,
-    ty: Scope,
-    extends: &[Name],
     ctor: &Ctor,
     s: &Option<ReadSignature>,
 ) -> Result<BegunBody, Need>
-    ensures reads { Reads (reply_to o.now) (ctor_call l.now n.now ty (map ids_of extends.now) (ctor_tree ctor.now) s.now) (begun_scope result) }
+    ensures reads { Reads (reply_to o.now) (ctor_call owner.now.layout.now owner.now.names.now owner.now.ty (map ids_of owner.now.extends.now) (ctor_tree ctor.now) s.now) (begun_scope result) }
     ensures count { IfOk result (λ b. b.count ≡ 0) }
 {
-    let spot = Spot::of_body(alloc, l, ty)?;
-    let outer = instance_bodies(alloc, l, ty)?;
-    let site = site_at(l, n, &spot, ty, outer.as_slice(), extends, &[], None);
+    let spot = Spot::of_body(alloc, owner.layout, owner.ty)?;
+    let outer = instance_bodies(alloc, owner.layout, owner.ty)?;
+    let site = site_at(owner, &spot, outer.as_slice(), &[], None);
     let mut body = begin_body(alloc, &site, ctor.params.as_slice(), param_types(s))?;
     check_super(
         alloc,
@@ -373,24 +394,21 @@ fn begin_ctor(
 #[tactic(auto, using(crate::proofs::BodySteps::ctor_steps))]
 fn go_on_ctor(
     alloc: Global,
-    l: &Layout,
-    n: &Names,
+    owner: &Owner<'_>,
     o: &Oracle,
-    ty: Scope,
-    extends: &[Name],
     blanks: &[Scope],
     ctor: &Ctor,
     body: BegunBody,
     progress: &mut BodyProgress,
 ) -> Result<DiagList, Need>
     requires { progress.old.begun ≡ None }
-    ensures reads { Reads (reply_to o.now) (ctor_statements_left l.now n.now ty (map ids_of extends.now) blanks.now (ctor_tree ctor.now) body) result }
-    ensures left { IfSome progress.new.begun (IsFurther o.now (ctor_statements_left l.now n.now ty (map ids_of extends.now) blanks.now (ctor_tree ctor.now)) body) }
+    ensures reads { Reads (reply_to o.now) (ctor_statements_left owner.now.layout.now owner.now.names.now owner.now.ty (map ids_of owner.now.extends.now) blanks.now (ctor_tree ctor.now) body) result }
+    ensures left { IfSome progress.new.begun (IsFurther o.now (ctor_statements_left owner.now.layout.now owner.now.names.now owner.now.ty (map ids_of owner.now.extends.now) blanks.now (ctor_tree ctor.now)) body) }
     ensures new { OnOk result (progress.new.begun ≡ None) }
 {
-    let spot = Spot::of_body(alloc, l, ty)?;
-    let inner = own_instances(alloc, l, ty)?;
-    let site = site_at(l, n, &spot, ty, inner.as_slice(), extends, blanks, None);
+    let spot = Spot::of_body(alloc, owner.layout, owner.ty)?;
+    let inner = own_instances(alloc, owner.layout, owner.ty)?;
+    let site = site_at(owner, &spot, inner.as_slice(), blanks, None);
     go_on(alloc, &site, o, ctor.body.as_slice(), body, progress)
 }
 
@@ -398,28 +416,26 @@ fn go_on_ctor(
 #[tactic(auto, using(crate::proofs::BodySteps::ctor_steps))]
 fn start_ctor(
     alloc: Global,
-    l: &Layout,
-    n: &Names,
+    owner: &Owner<'_>,
     o: &Oracle,
-    ty: Scope,
-    extends: &[Name],
     blanks: &[Scope],
     member: Scope,
     ctor: &Ctor,
     progress: &mut BodyProgress,
 ) -> Result<DiagList, Need>
     requires { progress.old.begun ≡ None }
-    ensures reads { Reads (reply_to o.now) (ctor_rule l.now n.now ty (map ids_of extends.now) blanks.now member (ctor_tree ctor.now)) result }
-    ensures left { IfSome progress.new.begun (λ b. IsCtorSoFar o.now l.now n.now ty (map ids_of extends.now) blanks.now member (ctor_tree ctor.now) (Some b)) }
+    ensures reads { Reads (reply_to o.now) (ctor_rule owner.now.layout.now owner.now.names.now owner.now.ty (map ids_of owner.now.extends.now) blanks.now member (ctor_tree ctor.now)) result }
+    ensures left { IfSome progress.new.begun (λ b. IsCtorSoFar o.now owner.now.layout.now owner.now.names.now owner.now.ty (map ids_of owner.now.extends.now) blanks.now member (ctor_tree ctor.now) (Some b)) }
     ensures new { OnOk result (progress.new.begun ≡ None) }
 {
-    let s = read_signature_of(alloc, l, o, member)?;
-    let body = begin_ctor(alloc, l, n, o, ty, extends, ctor, &s)?;
-    go_on_ctor(alloc, l, n, o, ty, extends, blanks, ctor, body, progress)
+    let s = read_ctor_signature(alloc, owner.layout, o, member, ctor)?;
+    let body = begin_ctor(alloc, owner, o, ctor, &s)?;
+    go_on_ctor(alloc, owner, o, blanks, ctor, body, progress)
 }
 
 /// What is wrong in the body of a constructor of a type, which may assign these blank final fields (JLS 8.8.7), as far as the replies
-/// tell it, or the first query that has no reply. The check goes on as that of a method does, once behind the super call.
+/// tell it, or the first query that has no reply. The check goes on as that of a method does, once behind the super call. The
+/// constructor's own signature is read where it has parameters.
 #[tactic(auto, using(crate::proofs::BodySteps::ctor_steps))]
 pub fn read_ctor_body(
     alloc: Global,
@@ -438,8 +454,14 @@ pub fn read_ctor_body(
     ensures left { IsCtorSoFar o.now l.now n.now ty (map ids_of extends.now) blanks.now member (ctor_tree ctor.now) progress.new.begun }
     ensures new { OnOk result (progress.new.begun ≡ None) }
 {
+    let owner = Owner {
+        layout: l,
+        names: n,
+        ty,
+        extends,
+    };
     match progress.take() {
-        None => start_ctor(alloc, l, n, o, ty, extends, blanks, member, ctor, progress),
-        Some(body) => go_on_ctor(alloc, l, n, o, ty, extends, blanks, ctor, body, progress),
+        None => start_ctor(alloc, &owner, o, blanks, member, ctor, progress),
+        Some(body) => go_on_ctor(alloc, &owner, o, blanks, ctor, body, progress),
     }
 }

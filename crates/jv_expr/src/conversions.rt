@@ -4,13 +4,13 @@ ghost use Rattle.std.specs.Prelude.{◌≡◌};
 ghost use Rattle.sg_reading.specs.Stop.{Reads};
 ghost use Rattle.jv_names.specs.Replies.{reply_to};
 ghost use Rattle.jv_expr.specs.Checking.{only_diags};
-ghost use Rattle.jv_expr.specs.Conversions.{fits, sides};
+ghost use Rattle.jv_expr.specs.Conversions.{fits};
 ghost use Rattle.jv_expr.specs.Operators.{assigned_to};
 ghost use Rattle.jv_expr.specs.Sites.{site_of};
 
 use crate::faults::add_misfit;
 use crate::need::Need;
-use crate::sides::{asks_supers, base_supers};
+use crate::sides::{asks_supers, base_supers, known_supers};
 use crate::site::Site;
 use jv_diag::DiagList;
 use jv_instance::Ty;
@@ -30,8 +30,9 @@ pub(crate) fn read_fits(
 ) -> Result<bool, Need>
     ensures { Reads (reply_to o.now) (fits l.now from to) result }
 {
-    if !asks_supers(from, to) {
-        return Ok(assignable(from, to, &[], l.object()));
+    if !asks_supers(l, from, to) {
+        let known = known_supers(alloc, l, from.base)?;
+        return Ok(assignable(from, to, known.as_slice(), l.object()));
     }
     let up = base_supers(alloc, l, o, from.base)?;
     Ok(assignable(from, to, up.as_slice(), l.object()))

@@ -441,7 +441,7 @@ fn check_choice_behind(
     ensures { Reads (reply_to o.now) (choice_behind (site_of site.now) locals.now at condition left (expr_tree z.now) ds.old) (with_diags result ds.new) }
 {
     let w = check_expr(alloc, site, o, locals, z, ds)?;
-    let ty = check_choice(alloc, site, o, at, condition, left, w.ty, ds)?;
+    let ty = check_choice(alloc, site, o, at, condition, (left, w.ty), ds)?;
     Ok(value(ty))
 }
 

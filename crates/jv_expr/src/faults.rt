@@ -3,7 +3,7 @@
 ghost use Rattle.std.specs.Prelude.{◌≡◌, ◌<◌, ◌^◌, length, map, not, OnOk, IfOk, Some};
 ghost use Rattle.std.specs.String.{string_bytes};
 ghost use Rattle.jv_diag.specs.Text.{takes};
-ghost use Rattle.jv_expr.specs.Operators.{is_index, with_misfit, with_cast, with_condition, with_size};
+ghost use Rattle.jv_expr.specs.Operators.{is_condition, is_index, with_misfit, with_cast, with_condition, with_size};
 ghost use Rattle.jv_expr.specs.Site.{with_fault, with_named, with_named_if, type_text};
 ghost use Rattle.jv_expr.specs.Sites.{site_of};
 
@@ -107,6 +107,13 @@ pub(crate) fn add_misfit(
     Ok(())
 }
 
+/// Whether a condition is boolean; of a bad one nothing is said.
+pub(crate) fn is_condition(ty: Ty) -> bool
+    ensures { result ≡ is_condition ty }
+{
+    ty.is_bad() || is_type(ty, BOOLEAN)
+}
+
 /// Adds that a condition is not boolean, where it is not (JLS 14.9).
 pub(crate) fn add_condition(
     alloc: Global,
@@ -117,7 +124,7 @@ pub(crate) fn add_condition(
 ) -> Result<(), AllocError>
     ensures { OnOk result (ds.new ≡ with_condition (site_of site.now) at ty ds.old) }
 {
-    let ok = ty.is_bad() || is_type(ty, BOOLEAN);
+    let ok = is_condition(ty);
     add_misfit(alloc, ok, site, at, ty, BOOLEAN, ds)
 }
 

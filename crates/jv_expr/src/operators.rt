@@ -5,12 +5,12 @@ ghost use Rattle.std.specs.String.{string_bytes};
 ghost use Rattle.sg_reading.specs.Stop.{Reads};
 ghost use Rattle.jv_names.specs.Replies.{reply_to};
 ghost use Rattle.jv_expr.specs.Checking.{with_diags, only_diags};
-ghost use Rattle.jv_expr.specs.Operators.{assign_compound, assign_on, assign_plain, bad_for, binary_on, both_texts, cast_on, casted, choice_by, choice_on, choice_text, choice_type, compound_result, element_type, index_on, is_open, may_be_instance, may_cast, operand_sides, operated, operator_of, operator_type, signed, simply_assigned, stepped, unary_on, unless_faulty, with_cast, with_refused, with_sealed, with_target};
+ghost use Rattle.jv_expr.specs.Operators.{assign_compound, assign_on, assign_plain, bad_for, binary_on, both_texts, branch_sides, cast_on, casted, choice_by, choice_on, choice_text, choice_type, compound_result, element_type, index_on, is_open, may_be_instance, may_cast, operand_sides, operated, operator_of, operator_type, signed, simply_assigned, stepped, unary_on, unless_faulty, with_cast, with_refused, with_sealed, with_target};
 ghost use Rattle.jv_expr.specs.Site.{type_text};
 ghost use Rattle.jv_expr.specs.Sites.{site_of};
 
 use crate::conversions::check_assigned;
-use crate::faults::{BAD, BOOLEAN, add_fault, is_index};
+use crate::faults::{BAD, BOOLEAN, add_fault, is_condition, is_index};
 use crate::need::Need;
 use crate::sides::{Pair, bare_sides, read_sides};
 use crate::site::Site;
@@ -301,23 +301,39 @@ fn choice_type(site: &Site<'_>, condition: Ty, p: &Pair) -> Option<Ty>
     None
 }
 
+/// What decides a conditional; only with a condition that is boolean or bad are its branches compared.
+#[tactic(auto, using(sg_reading::proofs::Steps::reading_steps), unfolding(crate::specs::Operators::branch_sides))]
+fn branch_sides(
+    alloc: Global,
+    site: &Site<'_>,
+    o: &Oracle,
+    condition: Ty,
+    left: Ty,
+    right: Ty,
+) -> Result<Pair, Need>
+    ensures { Reads (reply_to o.now) (branch_sides (site_of site.now) condition left right) result }
+{
+    if is_condition(condition) {
+        return read_sides(alloc, site.layout, o, left, right);
+    }
+    Ok(bare_sides(alloc, site.layout, left, right))
+}
+
 /// A conditional by what is known of its branches.
 fn chosen(
     alloc: Global,
     site: &Site<'_>,
     at: u32,
     condition: Ty,
-    left: Ty,
-    right: Ty,
     p: &Pair,
     ds: &mut DiagList,
 ) -> Result<Ty, AllocError>
-    ensures { IfOk result (λ t. (t, ds.new) ≡ choice_by (site_of site.now) at condition left right p.now ds.old) }
+    ensures { IfOk result (λ t. (t, ds.new) ≡ choice_by (site_of site.now) at condition p.now ds.old) }
 {
     if let Some(found) = choice_type(site, condition, p) {
         return Ok(found);
     }
-    let text = choice_text(alloc, site, condition, left, right)?;
+    let text = choice_text(alloc, site, condition, p.left.ty(), p.right.ty())?;
     add_refused(alloc, site, at, 17, text, ds)?;
     Ok(BAD)
 }
@@ -493,7 +509,7 @@ pub(crate) fn check_cast(
     Ok(ty)
 }
 
-/// A conditional (JLS 15.25).
+/// A conditional by the types of its condition and of its two branches (JLS 15.25).
 #[tactic(auto, using(crate::proofs::DiagSteps::diag_steps), unfolding(crate::specs::Operators::choice_on))]
 pub(crate) fn check_choice(
     alloc: Global,
@@ -501,14 +517,14 @@ pub(crate) fn check_choice(
     o: &Oracle,
     at: u32,
     condition: Ty,
-    left: Ty,
-    right: Ty,
+    branches: (Ty, Ty),
     ds: &mut DiagList,
 ) -> Result<Ty, Need>
-    ensures { Reads (reply_to o.now) (choice_on (site_of site.now) at condition left right ds.old) (with_diags result ds.new) }
+    ensures { Reads (reply_to o.now) (choice_on (site_of site.now) at condition branches.0 branches.1 ds.old) (with_diags result ds.new) }
 {
-    let p = read_sides(alloc, site.layout, o, left, right)?;
-    let ty = chosen(alloc, site, at, condition, left, right, &p, ds)?;
+    let (left, right) = branches;
+    let p = branch_sides(alloc, site, o, condition, left, right)?;
+    let ty = chosen(alloc, site, at, condition, &p, ds)?;
     Ok(ty)
 }
 

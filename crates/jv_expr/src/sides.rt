@@ -1,18 +1,19 @@
 //! What is known of two types that are compared.
 
-ghost use Rattle.std.specs.Prelude.{◌≡◌};
+ghost use Rattle.std.specs.Prelude.{◌≡◌, IfOk};
 ghost use Rattle.sg_reading.specs.Stop.{Reads};
+ghost use Rattle.jv_layout.specs.Readers.{object_scope};
 ghost use Rattle.jv_names.specs.Replies.{reply_to};
-ghost use Rattle.jv_types.specs.Conversion.{is_class_base};
+ghost use Rattle.jv_types.specs.Conversion.{is_class, is_class_base};
 ghost use Rattle.jv_types.specs.Side.{side_of};
-ghost use Rattle.jv_expr.specs.Conversions.{asks_supers, bare_sides, base_supers, is_final_base, is_interface_base, second_side, side, sides};
+ghost use Rattle.jv_expr.specs.Conversions.{are_known, asks_supers, bare_sides, base_supers, is_below_object, is_final_base, is_interface_base, known_sides, known_supers, second_side, side, sides};
 
 use crate::need::Need;
 use jv_instance::{Ty, TypeBase};
 use jv_layout::Layout;
 use jv_names::{Oracle, ScopeList, read_supers};
 use jv_types::{Side, assignable, is_type};
-use std::alloc::Global;
+use std::alloc::{AllocError, Global};
 use std::marker::Model;
 
 /// A type with the supertypes of its class, and whether that is an interface and whether it is final.
@@ -75,12 +76,37 @@ fn is_class_base(base: TypeBase) -> bool
     matches!(base, TypeBase::Class(_))
 }
 
-/// Whether these are two different classes under as many brackets, of which the supertypes decide.
-pub(crate) fn asks_supers(from: Ty, to: Ty) -> bool
-    ensures { result ≡ asks_supers from to }
+/// Whether a base is the class `Object`.
+fn is_object(l: &Layout, base: TypeBase) -> bool
+    ensures { result ≡ is_class (object_scope l.now) base }
+{
+    match base {
+        TypeBase::Class(class) => class == l.object(),
+        _ => false,
+    }
+}
+
+/// Whether these are an interface and `Object`.
+fn is_below_object(l: &Layout, base: TypeBase, above: TypeBase) -> bool
+    ensures { result ≡ is_below_object l.now base above }
+{
+    is_interface_base(l, base) && is_object(l, above)
+}
+
+/// Whether two types are compared without supertypes.
+fn are_known(l: &Layout, from: Ty, to: Ty) -> bool
+    ensures { result ≡ are_known l.now from to }
+{
+    is_type(from, to)
+        || (is_below_object(l, from.base, to.base) || is_below_object(l, to.base, from.base))
+}
+
+/// Whether these are two classes under as many brackets, of which the supertypes decide.
+pub(crate) fn asks_supers(l: &Layout, from: Ty, to: Ty) -> bool
+    ensures { result ≡ asks_supers l.now from to }
 {
     from.dims == to.dims
-        && (is_class_base(from.base) && (is_class_base(to.base) && !is_type(from, to)))
+        && (is_class_base(from.base) && (is_class_base(to.base) && !are_known(l, from, to)))
 }
 
 /// The supertypes of a class with itself; other types have none.
@@ -97,6 +123,21 @@ pub(crate) fn base_supers(
         TypeBase::Class(class) => read_supers(alloc, l, o, class),
         _ => Ok(ScopeList::empty(alloc)),
     }
+}
+
+/// The supertypes that are known of a class without a query: `Object` of an interface.
+pub(crate) fn known_supers(
+    alloc: Global,
+    l: &Layout,
+    base: TypeBase,
+) -> Result<ScopeList, AllocError>
+    ensures { IfOk result (λ up. up ≡ known_supers l.now base) }
+{
+    let mut known = ScopeList::empty(alloc);
+    if is_interface_base(l, base) {
+        known.push(l.object())?;
+    }
+    Ok(known)
 }
 
 /// Whether the class of a base is an interface.
@@ -141,6 +182,18 @@ pub(crate) fn bare_sides(alloc: Global, l: &Layout, from: Ty, to: Ty) -> Pair
     }
 }
 
+/// Both with the supertypes that are known without a query.
+fn known_sides(alloc: Global, l: &Layout, from: Ty, to: Ty) -> Result<Pair, AllocError>
+    ensures { IfOk result (λ p. p ≡ known_sides l.now from to) }
+{
+    let up = known_supers(alloc, l, from.base)?;
+    let more = known_supers(alloc, l, to.base)?;
+    Ok(Pair {
+        left: side(l, up, from),
+        right: side(l, more, to),
+    })
+}
+
 /// Both, with the supertypes of the first; and with those of the second, where the first is not assignable to it.
 #[tactic(auto, using(sg_reading::proofs::Steps::reading_steps))]
 fn second_side(
@@ -177,8 +230,9 @@ pub(crate) fn read_sides(
 ) -> Result<Pair, Need>
     ensures { Reads (reply_to o.now) (sides l.now from to) result }
 {
-    if !asks_supers(from, to) {
-        return Ok(bare_sides(alloc, l, from, to));
+    if !asks_supers(l, from, to) {
+        let known = known_sides(alloc, l, from, to)?;
+        return Ok(known);
     }
     let up = base_supers(alloc, l, o, from.base)?;
     second_side(alloc, l, o, from, to, up)

@@ -6,10 +6,9 @@ ghost use Rattle.jv_lex.specs.Punctuation.{marks};
 ghost use Rattle.jv_expr.specs.Operators.{operator_text, both_texts, choice_text};
 ghost use Rattle.jv_expr.specs.Sites.{site_of};
 
-use crate::faults::BOOLEAN;
+use crate::faults::is_condition;
 use crate::site::Site;
 use jv_instance::Ty;
-use jv_types::is_type;
 use std::alloc::{AllocError, Global};
 
 /// The marks in the order of their numbers.
@@ -78,7 +77,7 @@ pub(crate) fn choice_text(
 ) -> Result<String, AllocError>
     ensures { IfOk result (λ s. string_bytes s ≡ choice_text (site_of site.now) condition left right) }
 {
-    if condition.is_bad() || is_type(condition, BOOLEAN) {
+    if is_condition(condition) {
         both_texts(alloc, site, left, right)
     } else {
         site.layout.type_text(alloc, site.names, condition)

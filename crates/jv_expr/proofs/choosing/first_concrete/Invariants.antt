@@ -1,6 +1,0 @@
-use Rattle.std.proofs.Common.{◌≡◌, drop}
-use Rattle.jv_expr.specs.Calls.{first_concrete}
-use Rattle.jv_expr.proofs.choosing.first_concrete.Given as goal
-
-abbrev pub invariant-loop-method : goal.invariant-loop-method
-invariant-loop-method l = first_concrete l.l l.methods ≡ first_concrete l.l (drop l.method-index l.methods)

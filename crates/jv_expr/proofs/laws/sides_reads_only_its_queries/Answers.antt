@@ -1,0 +1,7 @@
+use Rattle.sg_reading.proofs.Readings.{reads_only}
+use Rattle.jv_names.specs.Law.{InGraph}
+use Rattle.jv_expr.specs.Conversions.{sides}
+use Rattle.jv_expr.proofs.laws.sides_reads_only_its_queries.Goals as goal
+
+pub returns : goal.returns
+returns c = λ l s t g h. reads_only (InGraph g) (InGraph h) (sides l s t)
