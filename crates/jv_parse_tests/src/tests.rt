@@ -1,4 +1,2 @@
 mod nesting;
-mod places;
-mod shown;
 mod sources;
