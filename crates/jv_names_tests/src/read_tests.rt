@@ -1,22 +1,18 @@
-//! What is read beside names in the small folder, worked out by hand.
+//! Signatures and constructors that are read in the small folder by replies that no graph gives, worked out by hand.
 //!
 //! 23 is the constructor of `A.M`, and the scopes from 26 on are signatures: 32 is that of the method `m` of `A`.
 
-use crate::small_folder::{A, B, C, M, P, Y, ident, scope, small_layout};
-use crate::small_replies::{SmallFolder, small_folder};
+use crate::small_folder::{M, Y, scope, small_layout};
 use jv_instance::{JavaDatum, JavaPred, Ty, TypeBase, TypeList, labels};
-use jv_layout::Layout;
 use jv_names::kinds::{CTORS, SIG};
 use jv_names::{
-    Oracle, ReadSignature, for_any, instance_bodies, object_methods, read_ctor_of,
-    read_has_enclosing, read_result_fits, read_signature_of, read_superclass, read_supers,
+    Oracle, ReadSignature, for_any, object_methods, read_ctor_of, read_signature_of, read_supers,
 };
-use jv_tree::{Name, NameId};
+use jv_tree::NameId;
 use sg_base::{Label, Scope, Step};
 use sg_query::{Answer, FoundPaths, FoundTree, Query};
 use sg_reading::Stop;
 use std::alloc::Global;
-use std::fmt::Write;
 use std::test::Fail;
 
 /// What was read, where no reply is missing.
@@ -25,51 +21,6 @@ fn known<T>(found: Result<T, Stop<Query<JavaPred>>>) -> Result<T, Fail> {
         Ok(value) => Ok(value),
         Err(_) => Err("a reply is missing".into()),
     }
-}
-
-/// The serials of scopes.
-fn serials(alloc: Global, scopes: &[Scope]) -> Result<String, Fail> {
-    let mut text = String::new(alloc);
-    for s in scopes {
-        write!(text, "{} ", s.serial)?;
-    }
-    Ok(text)
-}
-
-/// Types and their supertypes.
-const SUPERS: [(u32, &str); 4] = [
-    (10, "10 "),
-    (12, "12 10 "),
-    (13, "13 10 "),
-    (15, "15 12 10 "),
-];
-
-/// Whether scopes have these serials.
-fn are_serials(alloc: Global, scopes: &[Scope], wanted: &str) -> Result<bool, Fail> {
-    let text = serials(alloc, scopes)?;
-    Ok(text.as_str() == wanted)
-}
-
-fn has_supers(alloc: Global, small: &SmallFolder, class: u32, wanted: &str) -> Result<bool, Fail> {
-    let supers = known(read_supers(alloc, &small.layout, &small.oracle, scope(class)))?;
-    are_serials(alloc, supers.as_slice(), wanted)
-}
-
-/// The first of the types that have other supertypes.
-fn wrong_supers(alloc: Global, small: &SmallFolder) -> Result<Option<u32>, Fail> {
-    for (class, wanted) in SUPERS {
-        if !has_supers(alloc, small, class, wanted)? {
-            return Ok(Some(class));
-        }
-    }
-    Ok(None)
-}
-
-#[test]
-fn types_have_their_supertypes(rt: HostRuntime) -> Result<(), Fail> {
-    let wrong = wrong_supers(rt.alloc(), &*small_folder(rt.alloc())?)?;
-    assert_eq!(rt; wrong, None);
-    Ok(())
 }
 
 #[test]
@@ -81,165 +32,11 @@ fn supertypes_need_replies(rt: HostRuntime) -> Result<(), Fail> {
     Ok(())
 }
 
-/// Names in the extends clause of `B`, and its superclass.
-const EXTENDED: [(&[u32], u32); 4] = [(&[A], 12), (&[P, A, M], 13), (&[C], 10), (&[B, B], 10)];
-
-fn name_of(alloc: Global, numbers: &[u32]) -> Result<Name, Fail> {
-    let mut ids = Vec::new(alloc);
-    for number in numbers {
-        ids.push(ident(*number))?;
-    }
-    Ok(Name { ids })
-}
-
-/// The serial of the superclass of `B`, where this is its extends clause.
-fn superclass_by(alloc: Global, small: &SmallFolder, extends: &[Name]) -> Result<u32, Fail> {
-    let found = read_superclass(alloc, &small.layout, &small.oracle, scope(15), extends);
-    Ok(known(found)?.serial)
-}
-
-/// The serial of the superclass of `B`, where its extends clause has this name.
-fn superclass_named(alloc: Global, small: &SmallFolder, numbers: &[u32]) -> Result<u32, Fail> {
-    let extends = vec![in alloc; name_of(alloc, numbers)?]?;
-    superclass_by(alloc, small, extends.as_slice())
-}
-
-/// The first of the superclasses that `B` has not.
-fn wrong_superclass(alloc: Global, small: &SmallFolder) -> Result<Option<u32>, Fail> {
-    for (numbers, wanted) in EXTENDED {
-        if superclass_named(alloc, small, numbers)? != wanted {
-            return Ok(Some(wanted));
-        }
-    }
-    Ok(None)
-}
-
-#[test]
-fn classes_have_a_superclass(rt: HostRuntime) -> Result<(), Fail> {
-    let wrong = wrong_superclass(rt.alloc(), &*small_folder(rt.alloc())?)?;
-    assert_eq!(rt; wrong, None);
-    Ok(())
-}
-
-#[test]
-fn classes_extend_object_without_a_clause(rt: HostRuntime) -> Result<(), Fail> {
-    let found = superclass_by(rt.alloc(), &*small_folder(rt.alloc())?, &[])?;
-    assert_eq!(rt; found, 10);
-    Ok(())
-}
-
-/// Types, and the bodies around them with an instance.
-const INSTANCES: [(u32, &str); 3] = [(12, ""), (13, "12 "), (15, "")];
-
-fn has_instances(alloc: Global, layout: &Layout, class: u32, wanted: &str) -> Result<bool, Fail> {
-    let bodies = instance_bodies(alloc, layout, scope(class))?;
-    are_serials(alloc, bodies.as_slice(), wanted)
-}
-
-/// The first of the types that have other bodies around them.
-fn wrong_instances(alloc: Global, layout: &Layout) -> Result<Option<u32>, Fail> {
-    for (class, wanted) in INSTANCES {
-        if !has_instances(alloc, layout, class, wanted)? {
-            return Ok(Some(class));
-        }
-    }
-    Ok(None)
-}
-
-#[test]
-fn inner_classes_have_enclosing_instances(rt: HostRuntime) -> Result<(), Fail> {
-    let wrong = wrong_instances(rt.alloc(), &small_layout(rt.alloc())?)?;
-    assert_eq!(rt; wrong, None);
-    Ok(())
-}
-
-/// Bodies and a class, and whether they have the enclosing instance that it needs.
-const ENCLOSED: [(&[u32], u32, bool); 5] = [
-    (&[], 12, true),
-    (&[], 13, false),
-    (&[12], 13, true),
-    (&[14, 15], 13, true),
-    (&[14], 13, false),
-];
-
-fn scopes_of(alloc: Global, serials: &[u32]) -> Result<Vec<Scope>, Fail> {
-    let mut scopes = Vec::new(alloc);
-    for serial in serials {
-        scopes.push(scope(*serial))?;
-    }
-    Ok(scopes)
-}
-
-fn has_enclosing(
-    alloc: Global,
-    small: &SmallFolder,
-    around: &[u32],
-    class: u32,
-) -> Result<bool, Fail> {
-    let bodies = scopes_of(alloc, around)?;
-    let found = read_has_enclosing(
-        &small.layout,
-        &small.oracle,
-        bodies.as_slice(),
-        scope(class),
-    );
-    known(found)
-}
-
-/// The first of the classes where it is otherwise.
-fn wrong_enclosing(alloc: Global, small: &SmallFolder) -> Result<Option<u32>, Fail> {
-    for (around, class, wanted) in ENCLOSED {
-        if has_enclosing(alloc, small, around, class)? != wanted {
-            return Ok(Some(class));
-        }
-    }
-    Ok(None)
-}
-
-#[test]
-fn bodies_have_enclosing_instances(rt: HostRuntime) -> Result<(), Fail> {
-    let wrong = wrong_enclosing(rt.alloc(), &*small_folder(rt.alloc())?)?;
-    assert_eq!(rt; wrong, None);
-    Ok(())
-}
-
 fn class_type(serial: u32, dims: u8) -> Ty {
     Ty {
         base: TypeBase::Class(scope(serial)),
         dims,
     }
-}
-
-/// The classes and brackets of two results, and whether the first fits the second.
-const RESULTS: [(u32, u8, u32, u8, bool); 6] = [
-    (15, 0, 15, 0, true),
-    (15, 0, 12, 0, true),
-    (12, 0, 15, 0, false),
-    (15, 1, 12, 1, true),
-    (15, 1, 12, 0, false),
-    (12, 1, 10, 0, true),
-];
-
-fn fits(small: &SmallFolder, from: Ty, to: Ty) -> Result<bool, Fail> {
-    let found = read_result_fits(&small.layout, &small.oracle, from, to);
-    known(found)
-}
-
-/// The first of the results where it is otherwise.
-fn wrong_result(small: &SmallFolder) -> Result<Option<(u32, u32)>, Fail> {
-    for (from, from_dims, to, to_dims, wanted) in RESULTS {
-        if fits(small, class_type(from, from_dims), class_type(to, to_dims))? != wanted {
-            return Ok(Some((from, to)));
-        }
-    }
-    Ok(None)
-}
-
-#[test]
-fn results_fit_those_above(rt: HostRuntime) -> Result<(), Fail> {
-    let wrong = wrong_result(&*small_folder(rt.alloc())?)?;
-    assert_eq!(rt; wrong, None);
-    Ok(())
 }
 
 /// A signature with these parameters.
