@@ -1,7 +1,7 @@
 //! What the rules of imports, of headers and of dependence ask in a small folder, and what they come to by answers that are made up. What they
 //! say of whole folders stands in `tests/bodies`.
 
-use crate::sources::{Files, laid_out, trees};
+use crate::sources::{laid_out, trees};
 use jv_diag::Diag;
 use jv_header::{
     FileImports, Header, ImportsProgress, read_imports, resolve_depends, resolve_header,
@@ -19,10 +19,7 @@ use std::fmt::Write;
 use std::test::Fail;
 
 /// A file behind the two of the prelude, whose types are 2 and 3.
-const FILES: Files = &[(
-    "A.java",
-    "import p.T; import q.*; class A extends T {} class B {}",
-)];
+const SOURCE: &str = "import p.T; import q.*; class A extends T {} class B {}";
 
 const FILE: u32 = 2;
 
@@ -259,7 +256,7 @@ fn is_read(
     wanted: &str,
 ) -> Result<bool, Fail> {
     let mut names = Names::new(alloc);
-    let units = trees(alloc, FILES, &mut names)?;
+    let units = trees(alloc, SOURCE, &mut names)?;
     let text = read_by(alloc, &names, &units, reading, reply)?;
     Ok(text.as_str() == wanted)
 }

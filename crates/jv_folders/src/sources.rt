@@ -1,4 +1,4 @@
-//! Folders of sources for tests: their trees, their layouts, and how their scopes are printed.
+//! A folder for tests: its trees and its layout.
 
 ghost use Rattle.std.specs.Prelude.{◌≡◌, ◌≤◌, length, map, IfOk, OnOk};
 ghost use Rattle.jv_layout.specs.Folder.{layout_of};
@@ -6,26 +6,12 @@ ghost use Rattle.jv_layout.specs.Sizes.{IsFolder};
 ghost use Rattle.jv_tree.specs.DeclTree.{tree_of};
 ghost use Rattle.jv_tree.specs.Numbered.{AreNumbered, IsNumbered};
 
-use jv_layout::{Layout, Place, is_folder, layout, prelude};
+use jv_layout::{Layout, is_folder, layout, prelude};
 use jv_lex::lex;
 use jv_parse::parse;
 use jv_tree::{Names, Unit};
-use sg_base::Scope;
-use std::alloc::{AllocError, Global};
+use std::alloc::Global;
 use std::test::Fail;
-
-/// Files, in the order of their paths, each with its text.
-pub type Files<'a> = &'a [(&'a str, &'a str)];
-
-/// The labels by their numbers.
-const LABELS: [&str; 11] = [
-    "PKG", "TYPE", "SELF", "SIMP", "PKGOF", "ODI", "EXT", "FIELD", "METH", "CTOR", "SIG",
-];
-
-/// The word for a label.
-pub fn word_of(label: u8) -> &'static str {
-    LABELS.get(label as usize).copied().unwrap_or("?")
-}
 
 /// The tree of a source, whose identifiers have numbers of names.
 fn parsed(alloc: Global, source: &str, names: &mut Names) -> Result<Unit, Fail>
@@ -57,16 +43,14 @@ fn add_parsed(
     Ok(())
 }
 
-/// The trees of the prelude's files, and then of these.
-pub fn trees(alloc: Global, files: Files, names: &mut Names) -> Result<Vec<Unit>, Fail>
+/// The trees of the prelude's files, and then of a source.
+pub fn trees(alloc: Global, source: &str, names: &mut Names) -> Result<Vec<Unit>, Fail>
     ensures { IfOk result (λ us. AreNumbered (length names.new) (map tree_of us.items)) }
 {
     let mut units = Vec::new(alloc);
     add_parsed(alloc, prelude::OBJECT, names, &mut units)?;
     add_parsed(alloc, prelude::STRING, names, &mut units)?;
-    for (_, text) in files {
-        add_parsed(alloc, text, names, &mut units)?;
-    }
+    add_parsed(alloc, source, names, &mut units)?;
     Ok(units)
 }
 
@@ -79,20 +63,4 @@ pub fn laid_out(alloc: Global, names: &Names, units: &[Unit]) -> Result<Layout, 
         return Err(Fail::new("too many names are declared"));
     }
     Ok(layout(alloc, names, units)?)
-}
-
-/// The printed name of a scope; a file is printed as its path.
-pub fn title_of(
-    alloc: Global,
-    files: Files,
-    names: &Names,
-    layout: &Layout,
-    s: Scope,
-) -> Result<String, AllocError> {
-    if let Place::File(file) = layout.place(s) {
-        if let Some((path, _)) = files.get((file as usize).saturating_sub(2)) {
-            return String::from_str(alloc, path);
-        }
-    }
-    layout.title(alloc, names, s)
 }
