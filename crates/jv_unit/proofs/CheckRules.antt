@@ -1,18 +1,18 @@
 -- What is read of the checks of a type, and how far their checker comes.
-use Rattle.std.proofs.Common.{◌≡◌, ℕ, ◌+◌, ◌<◌, ◌≤◌, List, ◌++◌, Option, Some, None, Result, Ok, Err, MatchResult, suc, length, get_or, drop, refl, sym, ap, ◌∙◌, subst}
+use Rattle.std.proofs.Common.{◌≡◌, ℕ, ◌+◌, ◌<◌, ◌≤◌, List, [], ◌++◌, Option, Some, None, Result, Ok, Err, MatchResult, suc, length, get_or, drop, refl, sym, ap, ◌∙◌, subst}
 use Rattle.std.specs.Result.{IsErrAnd}
 use Rattle.std.proofs.lemmas.List.{at_drop_more, at_drop_all}
 use Rattle.sg_base.specs.declared.scope.Scope.{Scope}
 use Rattle.sg_query.specs.declared.answer.Answer.{Answer}
 use Rattle.sg_query.specs.declared.query.Query.{Query}
 use Rattle.sg_reading.specs.declared.stop.Stop.{Stop}
-use Rattle.sg_reading.specs.declared.stop.Stop.TheVariants.{OutOfMemory}
+use Rattle.sg_reading.specs.declared.stop.Stop.TheVariants.{NoReply, OutOfMemory}
 use Rattle.sg_reading.specs.Progress.{HasResidual, here}
-use Rattle.sg_reading.specs.Reading.{done, and_then}
+use Rattle.sg_reading.specs.Reading.{done, ask, and_then}
 use Rattle.sg_reading.specs.Replies.{AddsReply}
 use Rattle.sg_reading.specs.Stop.{Reads}
 use Rattle.sg_reading.proofs.Progress.{residual_added, residual_behind, residual_here, residual_on, residual_reads}
-use Rattle.sg_reading.proofs.Steps.{done_reads, memory_stops, stops, then_err}
+use Rattle.sg_reading.proofs.Steps.{ask_err, ask_ok, done_reads, memory_stops, stops, then_err}
 use Rattle.jv_diag.specs.Plain.{DiagOf}
 use Rattle.jv_expr.specs.declared.body_progress.BodyProgress.{BodyProgress}
 use Rattle.jv_expr.specs.declared.begun_body.BegunBody.{BegunBody}
@@ -28,7 +28,8 @@ use Rattle.jv_layout.specs.Readers.{members_of_type}
 use Rattle.jv_layout.specs.Scopes.{member_scope, type_scope}
 use Rattle.jv_member.specs.declared.signature.Signature.{Signature}
 use Rattle.jv_member.specs.Own.{OwnMember, own_field, own_method, own_ctor, default_ctor}
-use Rattle.jv_names.specs.Replies.{Rule}
+use Rattle.jv_names.specs.declared.kinds.TheConstants.{METHODS}
+use Rattle.jv_names.specs.Replies.{Rule, for_any}
 use Rattle.jv_tree.specs.declared.name.Ident.{Ident}
 use Rattle.jv_tree.specs.DeclTree.{MethodTree}
 use Rattle.jv_tree.specs.StmtTree.{StmtTrees}
@@ -36,14 +37,14 @@ use Rattle.jv_unit.specs.declared.begun_checks.BegunChecks.{BegunChecks}
 use Rattle.jv_unit.specs.declared.begun_head.BegunHead.{BegunHead}
 use Rattle.jv_unit.specs.declared.begun_type.BegunType.{BegunType}
 use Rattle.jv_unit.specs.declared.begun_type.BegunType.TheVariants.{Head, Checks}
-use Rattle.jv_unit.specs.Checks.{Check, declaration, overriding, meeting, calling, body, checks_of}
+use Rattle.jv_unit.specs.Checks.{Check, declaration, methods, overriding, meeting, calling, body, checks_of}
 use Rattle.jv_unit.specs.Folder.{FolderOf}
 use Rattle.jv_unit.specs.MemberBodies.{member_body, member_flow, own_body, type_blanks}
 use Rattle.jv_unit.specs.Owns.{own_at}
-use Rattle.jv_unit.specs.Plans.{all_checks, body_rule, calling_rule, check_rule, declaration_part, declaration_rule, meeting_rule, member_signature, overriding_rule, type_ending, with_checks}
+use Rattle.jv_unit.specs.Plans.{all_checks, body_rule, calling_rule, check_rule, declaration_part, declaration_rule, meeting_rule, member_signature, methods_rule, overriding_rule, type_ending, with_checks}
 use Rattle.jv_unit.specs.Progress.{AreSoFar, IsCheckSoFar, IsHeadSoFar, IsSoFar, Replies, check_begun, check_in, check_left, head_left, member_left, own_left, whole_rule}
 use Rattle.jv_unit.specs.Trees.{decl_at, extends_of}
-use Rattle.jv_unit.proofs.CheckPlaces.{body_at, calling_at, declaration_at, meeting_at, overriding_at}
+use Rattle.jv_unit.proofs.CheckPlaces.{body_at, calling_at, declaration_at, meeting_at, methods_at, overriding_at}
 use Rattle.jv_unit.proofs.HeadRules.{head_ends, head_so_far_first, head_stops, header_unknown}
 use Rattle.jv_unit.proofs.Steps.{made}
 
@@ -105,12 +106,28 @@ module _ (reply : Replies) (w : FolderOf) (t m : ℕ) where
   pub declaration_read : (s : Signature) (x : Result (List DiagOf) (Stop (Query JavaPred))) → Reads reply (member_signature w t m) (Ok s) → MatchResult x (λ ds. ds ≡ s.diags ++ declaration_part w t m) (λ stop. stop ≡ OutOfMemory) → Reads reply (declaration_rule w t m) x
   declaration_read s x h k = made reply (member_signature w t m) (λ s. s.diags ++ declaration_part w t m) s x h k
 
+-- ---- the methods of a type
+
+module _ (reply : Replies) (w : FolderOf) (t : ℕ) (c : Scope) (type : c ≡ type_scope w.layout t) where
+  pub methods_unknown : (e : Stop (Query JavaPred)) (x : Result (List DiagOf) (Stop (Query JavaPred))) → IsErrAnd x (λ y. y ≡ e) → (e ≡ NoReply (for_any METHODS c)) × (reply (for_any METHODS c) ≡ None) → Reads reply (methods_rule w t) x
+  methods_unknown e x k h =
+      let q : Query JavaPred = for_any METHODS c in
+      stops reply (methods_rule w t) e x k
+      (subst (λ (z : Stop (Query JavaPred)). Reads {U = List DiagOf} reply (methods_rule w t) (Err z)) (sym h.0)
+      (subst (λ (d : Scope). Reads {U = List DiagOf} reply (ask (for_any METHODS d) (λ a. done [])) (Err (NoReply q))) type (ask_err reply q (λ a. done []) h.1)))
+
+  pub methods_read : (a : Answer JavaDatum) (ds : List DiagOf) → reply (for_any METHODS c) ≡ Some a → ds ≡ [] → Reads reply (methods_rule w t) (Ok ds)
+  methods_read a ds h e =
+      subst (λ (d : Scope). Reads reply (ask (for_any METHODS d) (λ a. done [])) (Ok ds)) type
+      (ask_ok reply (for_any METHODS c) (λ a. done []) a (Ok ds) h (done_reads reply [] ds (sym e)))
+
 -- ---- one check
 
 module _ (reply : Replies) (w : FolderOf) (t : ℕ) (blanks : List Scope) where
   pub new_reached : (c : Check) (p : BodyProgress) → p.begun ≡ None → IsCheckSoFar reply w t blanks c p
   unfolding check_begun check_left
   new_reached (declaration m) p new = here
+  new_reached methods p new = here
   new_reached (overriding m) p new = here
   new_reached meeting p new = here
   new_reached (calling m) p new = here
@@ -131,17 +148,17 @@ module _ (reply : Replies) (w : FolderOf) (t : ℕ) (blanks : List Scope) where
     unfolding check_rule
     declaration_here x at h = rule_at (declaration m) x (check_is declaration k at (declaration_at ms k below)) h
 
-    pub overriding_here : (x : Result (List DiagOf) (Stop (Query JavaPred))) → place ≡ length ms + k → Reads reply (overriding_rule w t m) x → Reads reply (check_rule w t blanks (check_in w t place)) x
+    pub overriding_here : (x : Result (List DiagOf) (Stop (Query JavaPred))) → place ≡ length ms + suc k → Reads reply (overriding_rule w t m) x → Reads reply (check_rule w t blanks (check_in w t place)) x
     unfolding check_rule
-    overriding_here x at h = rule_at (overriding m) x (check_is overriding (length ms + k) at (overriding_at ms k below)) h
+    overriding_here x at h = rule_at (overriding m) x (check_is overriding (length ms + suc k) at (overriding_at ms k below)) h
 
-    pub calling_here : (x : Result (List DiagOf) (Stop (Query JavaPred))) → place ≡ length ms + (length ms + suc k) → Reads reply (calling_rule w t m) x → Reads reply (check_rule w t blanks (check_in w t place)) x
+    pub calling_here : (x : Result (List DiagOf) (Stop (Query JavaPred))) → place ≡ length ms + suc (length ms + suc k) → Reads reply (calling_rule w t m) x → Reads reply (check_rule w t blanks (check_in w t place)) x
     unfolding check_rule
-    calling_here x at h = rule_at (calling m) x (check_is calling (length ms + (length ms + suc k)) at (calling_at ms k below)) h
+    calling_here x at h = rule_at (calling m) x (check_is calling (length ms + suc (length ms + suc k)) at (calling_at ms k below)) h
 
-    module _ (at : place ≡ length ms + (length ms + suc (length ms + k))) where
+    module _ (at : place ≡ length ms + suc (length ms + suc (length ms + k))) where
       body_place : body m ≡ check_in w t place
-      body_place = check_is body (length ms + (length ms + suc (length ms + k))) at (body_at ms k below)
+      body_place = check_is body (length ms + suc (length ms + suc (length ms + k))) at (body_at ms k below)
 
       pub body_here : (x : Result (List DiagOf) (Stop (Query JavaPred))) → Reads reply (body_rule w t blanks m) x → Reads reply (check_rule w t blanks (check_in w t place)) x
       unfolding check_rule
@@ -155,12 +172,21 @@ module _ (reply : Replies) (w : FolderOf) (t : ℕ) (blanks : List Scope) where
       unfolding check_begun check_left
       left_of_body p h = subst (λ (d : Check). IsCheckSoFar reply w t blanks d p) (sym body_place) h
 
-  pub meeting_here : (place : ℕ) (x : Result (List DiagOf) (Stop (Query JavaPred))) → place ≡ length (members_of_type w.layout t) + (length (members_of_type w.layout t) + 0) → Reads reply (meeting_rule w t) x → Reads reply (check_rule w t blanks (check_in w t place)) x
-  unfolding check_rule
-  meeting_here place x at h =
-      let ms = members_of_type w.layout t in
-      let e : meeting ≡ check_in w t place = sym (ap (λ (j : ℕ). get_or (checks_of ms) j meeting) at ∙ meeting_at ms) in
-      subst (λ (d : Check). Reads reply (check_rule w t blanks d) x) e h
+  -- the two that are of no member
+  module _ (place : ℕ) (x : Result (List DiagOf) (Stop (Query JavaPred))) where
+    abbrev count : ℕ
+    count = length (members_of_type w.layout t)
+
+    alone_here : (c : Check) (i : ℕ) → place ≡ i → get_or (checks_of (members_of_type w.layout t)) i meeting ≡ c → Reads reply (check_rule w t blanks c) x → Reads reply (check_rule w t blanks (check_in w t place)) x
+    alone_here c i at e h = subst (λ (d : Check). Reads reply (check_rule w t blanks d) x) (sym (ap (λ (j : ℕ). get_or (checks_of (members_of_type w.layout t)) j meeting) at ∙ e)) h
+
+    pub methods_here : place ≡ count + 0 → Reads reply (methods_rule w t) x → Reads reply (check_rule w t blanks (check_in w t place)) x
+    unfolding check_rule
+    methods_here at h = alone_here methods (count + 0) at (methods_at (members_of_type w.layout t)) h
+
+    pub meeting_here : place ≡ count + suc (count + 0) → Reads reply (meeting_rule w t) x → Reads reply (check_rule w t blanks (check_in w t place)) x
+    unfolding check_rule
+    meeting_here at h = alone_here meeting (count + suc (count + 0)) at (meeting_at (members_of_type w.layout t)) h
 
 -- ---- all checks
 

@@ -8,12 +8,15 @@ pub mod MemberBodies
 pub mod MemberPlaces
 pub mod NewUnits
 pub mod Numbers
+pub mod OneRule
 pub mod OwnMembers
 pub mod Owns
+pub mod Parts
 pub mod Places
 pub mod Putting
 pub mod Sound
 pub mod Steps
 pub mod Trees
+pub mod TypeOwns
 pub mod UnitRules
 pub mod Writes

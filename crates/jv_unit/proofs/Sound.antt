@@ -33,7 +33,7 @@ use Rattle.jv_layout.proofs.SoundPlaces.{scopes_have_places}
 use Rattle.jv_layout.proofs.SoundSkeletons.{skeletons_are_sound}
 use Rattle.jv_member.specs.Own.{OwnMember, own_field, own_method, own_ctor, default_ctor}
 use Rattle.jv_expr.proofs.AskedBodies.{fields_ask_in, methods_ask_in, constructors_ask_in}
-use Rattle.jv_names.proofs.Listed.{members_listed}
+use Rattle.jv_names.proofs.Listed.{members_listed, type_is_listed}
 use Rattle.jv_tree.specs.declared.names.NameId.{NameId}
 use Rattle.jv_names.specs.declared.context.Context.TheVariants.{OnDemandImport}
 use Rattle.jv_names.specs.Bounds.{IsNamePred, IsNameQuery, IsLayoutQuery, IsListed, IsTypeScope, AreTypes, IsMeant, StaysIn}
@@ -52,10 +52,10 @@ use Rattle.jv_member.proofs.Bounds.{signatures_stay_in}
 use Rattle.jv_member.proofs.MembersAsked.{ctor_rule_asks, inherited_asks, overrides_ask}
 use Rattle.jv_tree.specs.DeclTree.{TypeDeclTree}
 use Rattle.jv_tree.specs.Numbered.{IsNumberedDecl}
-use Rattle.jv_unit.specs.Checks.{Check, declaration, overriding, meeting, calling, body, checks_of}
+use Rattle.jv_unit.specs.Checks.{Check, declaration, methods, overriding, meeting, calling, body, checks_of}
 use Rattle.jv_unit.specs.Folder.{FolderOf, IsFolderOf, java_preds}
 use Rattle.jv_unit.specs.Owns.{own_at}
-use Rattle.jv_unit.specs.Plans.{all_checks, calling_rule, check_rule, class_of, declaration_part, head_ending, meeting_rule, member_signature, overriding_rule, signature_datum, signature_stage, type_part, with_checks, java_plan, file_rows, file_edges, file_stage, file_stages, file_ending, type_row, type_stage, type_stages, type_ending, behind_header, beyond_prelude, own_file_ending, own_type_ending}
+use Rattle.jv_unit.specs.Plans.{all_checks, calling_rule, check_rule, class_of, declaration_part, head_ending, meeting_rule, member_signature, methods_rule, overriding_rule, signature_datum, signature_stage, type_part, with_checks, java_plan, file_rows, file_edges, file_stage, file_stages, file_ending, type_row, type_stage, type_stages, type_ending, behind_header, beyond_prelude, own_file_ending, own_type_ending}
 use Rattle.jv_unit.specs.MemberBodies.{member_body, member_flow, own_body, type_blanks}
 use Rattle.jv_unit.specs.Trees.{decl_at, unit_at, name_of, extends_of, implements_of}
 use Rattle.jv_unit.proofs.CheckPlaces.{IsCheckOf, checks_are}
@@ -263,6 +263,7 @@ module _ (w : FolderOf) (h : IsFolderOf w) where
           and_then-asked (IsQuery (java_plan w u)) (member_signature w t m) (λ s. done (s.diags ++ declaration_part w t m))
           (asks_in u (λ (s : Signature). IsSignatureIn w.layout s.datum) (member_signature w t m) (signature_stays m (member_below w.layout t m k)))
           (λ s. tt)
+      check_asks blanks methods k = in_plan (methods_rule w t) (record { start = type_is_listed w.layout c is_type; kind = omega arith; pred = tt }, λ a. tt)
       check_asks blanks (overriding m) k =
           in_plan (overriding_rule w t m)
           (overrides_ask w.layout (length w.names) w.names c h.linked is_type (name_of decl) (member_scope w.layout m) (own_at w.files m) (member_listed m k) (own_numbered m (member_below w.layout t m k)))

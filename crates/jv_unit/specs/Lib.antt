@@ -1,6 +1,8 @@
 pub mod Checks
+pub mod DeclaredBodies
 pub mod Folder
 pub mod Kept
+pub mod Law
 pub mod MemberBodies
 pub mod MemberPlaces
 pub mod Owns

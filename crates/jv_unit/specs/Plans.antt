@@ -2,7 +2,7 @@
 use Rattle.std.specs.Prelude.{ℕ, ◌-◌, nat_lt, cond, List, [], ◌∷◌, ◌++◌, length, map}
 use Rattle.sg_base.specs.declared.scope.Scope.{Scope}
 use Rattle.sg_base.specs.Graph.{Edge}
-use Rattle.sg_reading.specs.Reading.{done, and_then}
+use Rattle.sg_reading.specs.Reading.{done, ask, and_then}
 use Rattle.sg_script.specs.Script.{Plan, Stage, datum_stage, row_stage, edges_stage}
 use Rattle.sg_state.specs.Opening.{opened_of}
 use Rattle.jv_diag.specs.Plain.{DiagOf}
@@ -13,7 +13,8 @@ use Rattle.jv_layout.specs.Folder.{LayoutOf}
 use Rattle.jv_layout.specs.Readers.{file_of, members_of_type}
 use Rattle.jv_layout.specs.Scopes.{file_scope, member_scope, signature_of_member, type_scope}
 use Rattle.jv_layout.specs.Skeleton.{skeleton_of}
-use Rattle.jv_names.specs.Replies.{Rule}
+use Rattle.jv_names.specs.declared.kinds.TheConstants.{METHODS}
+use Rattle.jv_names.specs.Replies.{Rule, for_any}
 use Rattle.jv_header.specs.declared.header.Header.{Header}
 use Rattle.jv_header.specs.Declaration.{declared_diags}
 use Rattle.jv_header.specs.Depends.{depends_rule}
@@ -26,7 +27,7 @@ use Rattle.jv_member.specs.Members.{overrides}
 use Rattle.jv_member.specs.Overriding.{inherited_rule}
 use Rattle.jv_member.specs.Signatures.{signature_rule}
 use Rattle.jv_tree.specs.declared.names.NameId.{NameId}
-use Rattle.jv_unit.specs.Checks.{Check, declaration, overriding, meeting, calling, body, checks_of}
+use Rattle.jv_unit.specs.Checks.{Check, declaration, methods, overriding, meeting, calling, body, checks_of}
 use Rattle.jv_unit.specs.Folder.{FolderOf, java_preds}
 use Rattle.jv_unit.specs.MemberBodies.{member_body, member_flow, type_blanks}
 use Rattle.jv_unit.specs.Owns.{own_at}
@@ -92,6 +93,10 @@ declaration_part w t m = member_diags w.layout w.names (type_scope w.layout t) (
 abbrev pub declaration_rule : FolderOf → ℕ → ℕ → Rule (List DiagOf)
 declaration_rule w t m = and_then (member_signature w t m) (λ s. done (s.diags ++ declaration_part w t m))
 
+-- the methods that the type has are asked for first; of them alone nothing is said
+abbrev pub methods_rule : FolderOf → ℕ → Rule (List DiagOf)
+methods_rule w t = ask (for_any METHODS (type_scope w.layout t)) (λ a. done [])
+
 -- those of a method against what it is declared over
 abbrev pub overriding_rule : FolderOf → ℕ → ℕ → Rule (List DiagOf)
 overriding_rule w t m = overrides w.layout w.names (type_scope w.layout t) (name_of (decl_at w.files t)) (member_scope w.layout m) (own_at w.files m)
@@ -111,6 +116,7 @@ body_rule w t blanks m = and_then (member_body w t blanks m) (λ ds. done (ds ++
 -- the diagnostics of a check of a type with these blank fields
 unfoldable pub check_rule : FolderOf → ℕ → List Scope → Check → Rule (List DiagOf)
 check_rule w t blanks (declaration m) = declaration_rule w t m
+check_rule w t blanks methods = methods_rule w t
 check_rule w t blanks (overriding m) = overriding_rule w t m
 check_rule w t blanks meeting = meeting_rule w t
 check_rule w t blanks (calling m) = calling_rule w t m

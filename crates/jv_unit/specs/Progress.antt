@@ -27,7 +27,7 @@ use Rattle.jv_unit.specs.declared.begun_checks.BegunChecks.{BegunChecks}
 use Rattle.jv_unit.specs.declared.begun_head.BegunHead.{BegunHead}
 use Rattle.jv_unit.specs.declared.begun_type.BegunType.{BegunType}
 use Rattle.jv_unit.specs.declared.begun_type.BegunType.TheVariants.{Head, Checks}
-use Rattle.jv_unit.specs.Checks.{Check, declaration, overriding, meeting, calling, body, checks_of}
+use Rattle.jv_unit.specs.Checks.{Check, declaration, methods, overriding, meeting, calling, body, checks_of}
 use Rattle.jv_unit.specs.Folder.{FolderOf}
 use Rattle.jv_unit.specs.MemberBodies.{member_body}
 use Rattle.jv_unit.specs.Owns.{own_at}
@@ -57,6 +57,7 @@ whole_rule w t = type_ending w t
 -- what of a check goes on where it stopped: of a body its own rule, without the flow through it, and else all
 unfoldable pub check_begun : FolderOf → ℕ → List Scope → Check → Rule (List DiagOf)
 check_begun w t blanks (declaration m) = check_rule w t blanks (declaration m)
+check_begun w t blanks methods = check_rule w t blanks methods
 check_begun w t blanks (overriding m) = check_rule w t blanks (overriding m)
 check_begun w t blanks meeting = check_rule w t blanks meeting
 check_begun w t blanks (calling m) = check_rule w t blanks (calling m)
@@ -65,6 +66,7 @@ check_begun w t blanks (body m) = member_body w t blanks m
 -- what is left of that: of a body what is left of it, and else all
 unfoldable pub check_left : FolderOf → ℕ → List Scope → Check → BodyProgress → Rule (List DiagOf)
 check_left w t blanks (declaration m) p = check_rule w t blanks (declaration m)
+check_left w t blanks methods p = check_rule w t blanks methods
 check_left w t blanks (overriding m) p = check_rule w t blanks (overriding m)
 check_left w t blanks meeting p = check_rule w t blanks meeting
 check_left w t blanks (calling m) p = check_rule w t blanks (calling m)

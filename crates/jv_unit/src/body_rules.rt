@@ -26,7 +26,7 @@ use sg_reading::Stop;
 use std::alloc::{AllocError, Global};
 
 /// Whether a member is a final instance field without an initializer.
-fn is_blank(l: &Layout, scope: Scope, member: &MemberDecl<'_>) -> bool
+pub(crate) fn is_blank(l: &Layout, scope: Scope, member: &MemberDecl<'_>) -> bool
     ensures { result ≡ is_blank l.now scope (own_of member.now) }
 {
     match member {

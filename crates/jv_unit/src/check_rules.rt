@@ -1,17 +1,18 @@
 //! What the unit of a type reads behind its header: the checks of its members, one after another.
 
-ghost use Rattle.std.specs.Prelude.{◌≡◌, ◌<◌, ◌^◌, ◌++◌, length, None, MatchResult};
+ghost use Rattle.std.specs.Prelude.{◌≡◌, ◌<◌, ◌^◌, ◌++◌, length, None, Some, MatchResult};
 ghost use Rattle.sg_reading.specs.Progress.{HasResidual};
 ghost use Rattle.sg_reading.specs.Stop.{Reads};
-ghost use Rattle.sg_reading.specs.declared.stop.Stop.TheVariants.{OutOfMemory};
+ghost use Rattle.sg_reading.specs.declared.stop.Stop.TheVariants.{NoReply, OutOfMemory};
 ghost use Rattle.jv_expr.specs.Checking.{only_diags};
 ghost use Rattle.jv_layout.specs.Readers.{members_of_type};
 ghost use Rattle.jv_layout.specs.Scopes.{member_scope};
-ghost use Rattle.jv_names.specs.Replies.{reply_to};
+ghost use Rattle.jv_names.specs.declared.kinds.TheConstants.{METHODS};
+ghost use Rattle.jv_names.specs.Replies.{for_any, reply_to};
 ghost use Rattle.jv_unit.specs.Checks.{checks_of};
 ghost use Rattle.jv_unit.specs.Kept.{folder_of, IsWhole};
 ghost use Rattle.jv_unit.specs.MemberBodies.{member_body};
-ghost use Rattle.jv_unit.specs.Plans.{all_checks, body_rule, calling_rule, check_rule, declaration_part, declaration_rule, meeting_rule, overriding_rule};
+ghost use Rattle.jv_unit.specs.Plans.{all_checks, body_rule, calling_rule, check_rule, declaration_part, declaration_rule, meeting_rule, methods_rule, overriding_rule};
 ghost use Rattle.jv_unit.specs.Progress.{AreSoFar, check_in, IsCheckSoFar, IsHeadSoFar, IsReadSoFar, IsSoFar, member_left, whole_rule};
 
 use crate::begun_checks::BegunChecks;
@@ -26,22 +27,22 @@ use crate::type_rules::read_type_header;
 use jv_diag::DiagList;
 use jv_expr::BodyProgress;
 use jv_header::{DependenceProgress, HeaderProgress};
-use jv_instance::JavaPred;
+use jv_instance::{JavaDatum, JavaPred};
 use jv_member::{member_diags, read_ctor_rule, read_inherited_rule, read_overrides};
-use jv_names::Oracle;
+use jv_names::{Oracle, for_any, kinds};
 use sg_base::Scope;
-use sg_query::Query;
+use sg_query::{Answer, Query};
 use sg_reading::Stop;
 use std::alloc::{AllocError, Global};
 
-/// How many checks a type has: four for each of its members, and one of the methods that meet.
+/// How many checks a type has: four for each of its members, one of the methods that it has, and one of those that meet.
 fn check_count(w: &Folder, t: u32) -> usize
     requires whole { IsWhole w.now }
     requires within { t < length w.now.layout.types }
     ensures count { result ≡ length (checks_of (members_of_type w.now.layout t)) }
     ensures few { result < 2 ^ 34 }
 {
-    4 * member_count(w, t) + 1
+    4 * member_count(w, t) + 2
 }
 
 /// Diagnostics, and behind them those of the declaration of a member itself.
@@ -94,6 +95,31 @@ fn read_declaration(
 {
     let signature = read_member(alloc, w, o, t, m)?;
     with_declaration(alloc, w, t, scope, m, signature.diags)
+}
+
+/// The reply to the query for the methods of a type, or a stop that names it.
+fn ask_methods(o: &Oracle, ty: Scope) -> Result<&Answer<JavaDatum>, Stop<Query<JavaPred>>>
+    ensures { MatchResult result
+        (λ answer. reply_to o.now (for_any METHODS ty) ≡ Some answer.now)
+        (λ stop. (stop ≡ NoReply (for_any METHODS ty)) × (reply_to o.now (for_any METHODS ty) ≡ None)) }
+{
+    o.ask(for_any(kinds::METHODS, ty))
+}
+
+/// No diagnostics, once there is a reply to the query for the methods of a type, or that query. It is asked before what each method is
+/// declared over.
+fn read_methods(
+    alloc: Global,
+    w: &Folder,
+    o: &Oracle,
+    t: u32,
+) -> Result<DiagList, Stop<Query<JavaPred>>>
+    requires whole { IsWhole w.now }
+    requires within { t < length w.now.layout.types }
+    ensures { Reads (reply_to o.now) (methods_rule (folder_of w.now) t) result }
+{
+    ask_methods(o, w.ty(t))?;
+    Ok(DiagList::empty(alloc))
 }
 
 /// The diagnostics of a method against what it is declared over, as far as the replies tell them, or the first query that has no reply.
@@ -208,21 +234,24 @@ fn read_check(
         let scope = member_at(w, t, place);
         return read_declaration(alloc, w, o, t, scope, m);
     }
-    if place < 2 * count {
-        let at = place - count;
+    if place == count {
+        return read_methods(alloc, w, o, t);
+    }
+    if place <= 2 * count {
+        let at = place - count - 1;
         let m = member_number(w, t, at);
         let scope = member_at(w, t, at);
         return read_overriding(alloc, w, o, t, scope, m);
     }
-    if place == 2 * count {
+    if place == 2 * count + 1 {
         return read_meeting(alloc, w, o, t);
     }
-    if place <= 3 * count {
-        let at = place - 2 * count - 1;
+    if place <= 3 * count + 1 {
+        let at = place - 2 * count - 2;
         let m = member_number(w, t, at);
         return read_calling(alloc, w, o, t, m);
     }
-    let at = place - 3 * count - 1;
+    let at = place - 3 * count - 2;
     let m = member_number(w, t, at);
     let scope = member_at(w, t, at);
     read_whole_body(alloc, w, o, t, blanks, scope, m, progress)

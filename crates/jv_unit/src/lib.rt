@@ -19,6 +19,7 @@ mod file_rules;
 mod folder;
 mod head_rules;
 mod java_script;
+pub mod laws;
 mod member_places;
 mod member_rules;
 mod type_progress;

@@ -7,7 +7,7 @@ use Rattle.jv_diag.specs.Plain.{DiagOf}
 use Rattle.jv_layout.specs.Readers.{file_of, members_of_type}
 use Rattle.jv_layout.specs.Scopes.{type_scope}
 use Rattle.jv_names.specs.Replies.{Rule}
-use Rattle.jv_unit.specs.Checks.{Check, declaration, overriding, meeting, calling, body, checks_of}
+use Rattle.jv_unit.specs.Checks.{Check, declaration, methods, overriding, meeting, calling, body, checks_of}
 use Rattle.jv_unit.specs.Folder.{FolderOf}
 use Rattle.jv_unit.specs.MemberBodies.{type_blanks}
 use Rattle.jv_unit.specs.Plans.{all_checks, beyond_prelude, check_rule, head_ending, own_file_ending, type_ending, unit_ending, with_checks}
@@ -17,6 +17,7 @@ module _ (w : FolderOf) (t : ℕ) where
   check_same : (blanks : List Scope) (c : Check) → check_rule w t blanks c ≡ check_rule (ruled w) t blanks c
   unfolding check_rule
   check_same blanks (declaration m) = refl
+  check_same blanks methods = refl
   check_same blanks (overriding m) = refl
   check_same blanks meeting = refl
   check_same blanks (calling m) = refl

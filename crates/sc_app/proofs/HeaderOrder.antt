@@ -11,8 +11,8 @@ use Rattle.sg_base.specs.Label.{Word}
 use Rattle.sg_base.proofs.Finite.{nothing_in, single, Contains-head, Contains-tail, Contains-cons, Contains-filter, Contains-map, filter-Contains, map-Contains}
 use Rattle.sg_expr.specs.Word.{In}
 use Rattle.sg_headers.specs.Follower.{SetsDatum}
-use Rattle.sg_headers.specs.Imports.{GivesImports, TouchesNothingOpen}
-use Rattle.sg_headers.specs.Orderly.{AsksNoSignature, MayAskSignatures, MayGiveImports, MayReadHeader}
+use Rattle.sg_headers.specs.Imports.{GivesImports, MayReadImports, TouchesNothingOpen}
+use Rattle.sg_headers.specs.Orderly.{AnswersTold, AsksNoSignature, MayAskSignatures, MayGiveImports, MayReadHeader}
 use Rattle.sg_headers.specs.Setting.{AreOrderly}
 use Rattle.sg_headers.proofs.Followers.{followers_ask_signatures_last, followers_read_headers, followers_read_imports}
 use Rattle.sg_headers.proofs.Importing.{import_rules_give_imports, untouched_are_settled}
@@ -20,7 +20,7 @@ use Rattle.sg_query.specs.declared.query.Query.{Query}
 use Rattle.sg_query.specs.Answer.{IsAnswer}
 use Rattle.sg_query.specs.Query.{Asked}
 use Rattle.sg_query.specs.State.{IsSettled}
-use Rattle.sg_reading.specs.Reading.{done, AllAsked}
+use Rattle.sg_reading.specs.Reading.{Reading, done, ask, AllAsked, Asks}
 use Rattle.sg_reading.proofs.Asking.{AllAsked-more, and_then-asked, and_then-ends, any_ends}
 use Rattle.sg_reading.proofs.Readings.{Gives-more}
 use Rattle.sg_script.specs.declared.write.Write.{Write}
@@ -31,6 +31,8 @@ use Rattle.sg_state.proofs.Extending.{open_from, unset_from}
 use Rattle.sg_state.proofs.SoundOpenings.{edge_in, scope_in}
 use Rattle.sg_trace.specs.Tells.{trace_of}
 use Rattle.sg_unit.specs.declared.entry.Entry.{Entry}
+use Rattle.sg_unit.specs.declared.op.Op.{Op}
+use Rattle.sg_unit.specs.declared.op.Op.TheVariants.{Fresh, AddEdge, SetDatum, CloseRow, Ask, Advance, Take, End}
 use Rattle.sg_unit.specs.Orderly.{IsOrderly}
 use Rattle.sg_unit.specs.Run.{asked_by, units_of}
 use Rattle.sg_unit.specs.Step.{IsRun}
@@ -63,7 +65,7 @@ use Rattle.jv_unit.specs.Trees.{decl_at, extends_of, implements_of}
 use Rattle.jv_unit.proofs.Numbers.{decl_numbered, extends_numbered, implements_numbered, members_are_owns, owns_numbered}
 use Rattle.jv_unit.proofs.Trees.{types_of_decls}
 use Rattle.sc_app.specs.FolderGraph.{GivesImport, IsSkeleton, headers_of}
-use Rattle.sc_app.specs.FolderLaw.{roles_of}
+use Rattle.sc_app.specs.FolderLaw.{MayAskForOwn, roles_of}
 use Rattle.sc_app.specs.FolderRun.{FollowsBy, JavaCore, ruled}
 use Rattle.sc_app.proofs.HeaderHolds.{begun, begun_opens, datum_held, in_below, row_cases, skeleton_sound}
 use Rattle.sc_app.proofs.HeaderImports.{IsImportEdge, given_imports, imports_ask, imports_of, one_imports}
@@ -93,6 +95,12 @@ module _ (w : FolderOf) where
       behind n = omega arith
 
 -- ---- what rules ask
+
+-- a query to which a rule comes is one that it may ask
+module _ {Q A U : Type 0} (K : Q → Type 0) (R : Q → A → Type 0) where
+  pub all_asks : (r : Reading Q A U) (p : Q) → AllAsked K r → Asks R r p → K p
+  all_asks (done v) p c x = absurd x
+  all_asks (ask q next) p c x = elim x [ inl e ↦ subst K e c.0 | inr m ↦ all_asks (next m.0) p (c.1 m.0) m.2 ]
 
 module _ (w : FolderOf) (h : IsFolderOf w) where
   abbrev IsName : Query JavaPred → Type 0
@@ -292,16 +300,38 @@ module _ (w : FolderOf) (h : IsFolderOf w) (g : GraphOf JavaDatum) (k : IsSkelet
       row_is : (n : ℕ) → s ≡ file_scope w.layout u → l ≡ n → ◌≡◌ {A = Scope × ℕ} (file_scope w.layout u, n) (s, l)
       row_is n a b = λ i. (sym a i, sym b i)
 
+  -- the unit of a file reads the rule of its imports
+  file_reads : (u : ℕ) → u < length w.layout.files → IsOrderly (MayReadImports (folder_setting w) u (λ (q : Query JavaPred). q) (file_edges w u)) (trace_of u log).past (trace_of u log).last
+  file_reads u b =
+      let f = follows u (omega (arith, b)) in
+      followers_read_imports Java (List DiagOf) JavaDatum JavaPred (folder_setting w) (java_plan w u) (file_rows w.layout u) (file_edges w u) [] f.reply f.asked f.pending f.stage f.ended (trace_of u log).past (trace_of u log).last f.follows (stages_of_file w u b)
+      (file_holds_rows u b) (λ t s l c d. nothing_in t c)
+
   imports_orderly : (u : ℕ) → IsTrue (nat_lt u (length w.layout.files)) → IsOrderly (MayGiveImports (headers_of (ruled w) g) (folder_setting w) u) (trace_of u log).past (trace_of u log).last
   imports_orderly u i =
       let b : u < length w.layout.files = ltb-true u (length w.layout.files) i in
-      let f = follows u (omega (arith, b)) in
       import_rules_give_imports Java (List DiagOf) (Query JavaPred) JavaDatum JavaPred (headers_of (ruled w) g) (folder_setting w) (λ (q : Query JavaPred). q) (file_edges w u) u log (begun_opens w h) run (gives_imports u b)
-      (followers_read_imports Java (List DiagOf) JavaDatum JavaPred (folder_setting w) (java_plan w u) (file_rows w.layout u) (file_edges w u) [] f.reply f.asked f.pending f.stage f.ended (trace_of u log).past (trace_of u log).last f.follows (stages_of_file w u b)
-      (file_holds_rows u b) (λ t s l c d. nothing_in t c))
+      (file_reads u b)
 
   pub folder_orderly : AreOrderly (headers_of (ruled w) g) (folder_setting w) (roles_of w.layout) log
   folder_orderly = record { types = types_orderly; imports = imports_orderly }
+
+  -- a file asks what packages declare until it has closed its rows
+  pub folder_asks_for_own : (u : ℕ) → u < length w.layout.files → IsOrderly (MayAskForOwn (folder_core w log) u) (trace_of u log).past (trace_of u log).last
+  folder_asks_for_own u b past op gave = for_own op (file_reads u b past op gave)
+    where
+      for_own : (op : Op Java (List DiagOf) JavaDatum JavaPred) → MayReadImports (folder_setting w) u (λ (q : Query JavaPred). q) (file_edges w u) past op → MayAskForOwn (folder_core w log) u past op
+      for_own (Fresh labels datum) m = tt
+      for_own (AddEdge from label to) m = tt
+      for_own (SetDatum s d) m = tt
+      for_own (CloseRow s l) m = tt
+      for_own (Ask q) m = λ s l holds. elim (m s l holds) [
+        | inl closed ↦ inl closed
+        | inr x ↦ inr (subst AsksForOwn x.1 (all_asks (λ q. IsNameQuery w.layout (length w.names) q × AsksForOwn q) (λ q a. (AnswersTold (λ (q : Query JavaPred). q) past q a)) (file_edges w u) x.0 (imports_ask w h u b) (x.2).0).1)
+      ]
+      for_own Advance m = tt
+      for_own Take m = tt
+      for_own (End x) m = tt
 
   -- ---- signatures
 

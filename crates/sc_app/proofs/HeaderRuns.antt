@@ -5,11 +5,14 @@ use Rattle.std.specs.List.{Contains}
 use Rattle.sg_base.specs.declared.scope.Scope.{Scope}
 use Rattle.sg_base.specs.Graph.{GraphOf}
 use Rattle.sg_core.specs.declared.phase.Phase.TheVariants.{Stuck}
-use Rattle.sg_core.specs.Core.{IsPhase, run}
+use Rattle.sg_core.specs.Core.{IsPhase, run, setting}
 use Rattle.sg_headers.specs.Run.{IsOrderlyRun, IsOver}
+use Rattle.sg_headers.specs.Setting.{AreOrderly}
 use Rattle.sg_headers.proofs.Headers.{closed_headers_are_greatest}
 use Rattle.sg_headers.proofs.Sticking.{stuck_where_headers_wait}
 use Rattle.sg_query.specs.declared.query.Query.{Query}
+use Rattle.sg_trace.specs.Tells.{trace_of}
+use Rattle.sg_unit.specs.Orderly.{IsOrderly}
 use Rattle.sg_unit.specs.Run.{run_of}
 use Rattle.jv_diag.specs.Plain.{DiagOf}
 use Rattle.jv_instance.specs.declared.datum.JavaDatum.{JavaDatum}
@@ -19,9 +22,9 @@ use Rattle.jv_instance.specs.Data.{is_wanted}
 use Rattle.jv_layout.specs.Readers.{types_of}
 use Rattle.jv_unit.specs.Folder.{FolderOf, IsFolderOf}
 use Rattle.sc_app.specs.FolderGraph.{IsSkeleton, headers_of}
-use Rattle.sc_app.specs.FolderLaw.{AsksSignaturesLast, FolderRunsAreStuckByHeaders, FolderRunsAskSignaturesLast, FolderRunsLeaveGreatest, LeavesGreatest, closed_in, roles_of}
+use Rattle.sc_app.specs.FolderLaw.{AsksSignaturesLast, FilesAskForOwn, FolderRunsAreOrderly, FolderRunsAreStuckByHeaders, FolderRunsAskSignaturesLast, FolderRunsLeaveGreatest, LeavesGreatest, MayAskForOwn, closed_in, roles_of}
 use Rattle.sc_app.specs.FolderRun.{IsFolderRun, JavaCore, ruled, same_datum}
-use Rattle.sc_app.proofs.HeaderOrder.{FolderEntry, folder_asks_last, folder_core, folder_orderly}
+use Rattle.sc_app.proofs.HeaderOrder.{FolderEntry, folder_asks_for_own, folder_asks_last, folder_core, folder_orderly}
 use Rattle.sc_app.proofs.HeaderSetting.{folder_program, folder_quiet, folder_setting, is_setting}
 use Rattle.sc_app.proofs.HeaderSkeleton.{skeleton_exists}
 
@@ -74,3 +77,16 @@ pub runs_ask_signatures_last : FolderRunsAskSignaturesLast
 runs_ask_signatures_last w c g h r k u few =
     let same = same_core w c r in
     subst (λ (d : JavaCore). AsksSignaturesLast w d g u) same (asks_last w h c.log (subst (IsFolderRun w) (sym same) r) g k u few)
+
+pub runs_are_orderly : FolderRunsAreOrderly
+runs_are_orderly w c g h r k =
+    let same = same_core w c r in
+    let f : IsFolderRun w (folder_core w c.log) = subst (IsFolderRun w) (sym same) r in
+    subst (λ (d : JavaCore). AreOrderly (headers_of (ruled w) g) (setting is_wanted same_datum d) (roles_of w.layout) d.log) same (folder_orderly w h g k c.log f.core.runs f.follows)
+
+pub files_ask_for_own : FilesAskForOwn
+files_ask_for_own w c h r u b =
+    let same = same_core w c r in
+    let f : IsFolderRun w (folder_core w c.log) = subst (IsFolderRun w) (sym same) r in
+    let g = skeleton_exists w h in
+    subst (λ (d : JavaCore). IsOrderly (MayAskForOwn d u) (trace_of u d.log).past (trace_of u d.log).last) same (folder_asks_for_own w h g.0 g.1 c.log f.core.runs f.follows u b)

@@ -1,5 +1,5 @@
 -- Laws of the runs of a folder's checkers: whatever the order of their steps, they come to what the rules say.
-use Rattle.std.specs.Prelude.{◌≡◌, ℕ, ◌+◌, ◌-◌, ◌<◌, nat_lt, Bool, false, List, ◌++◌, length, ◌↔◌}
+use Rattle.std.specs.Prelude.{◌≡◌, ℕ, ◌+◌, ◌-◌, ◌<◌, nat_lt, Bool, false, List, ◌++◌, length, ◌↔◌, ◌⊎◌}
 use Rattle.std.specs.List.{Contains}
 use Rattle.sg_base.specs.declared.scope.Scope.{Scope}
 use Rattle.sg_base.specs.Graph.{GraphOf}
@@ -7,12 +7,15 @@ use Rattle.sg_core.specs.declared.phase.Phase.TheVariants.{Ended, Stuck}
 use Rattle.sg_core.specs.Core.{EndedWith, IsPhase, run, setting}
 use Rattle.sg_headers.specs.Orderly.{MayAskSignatures}
 use Rattle.sg_headers.specs.Outcome.{Leaves, is_closed}
-use Rattle.sg_headers.specs.Setting.{Roles}
+use Rattle.sg_headers.specs.Setting.{AreOrderly, Roles}
 use Rattle.sg_query.specs.declared.query.Query.{Query}
 use Rattle.sg_reading.specs.Reading.{Needs}
 use Rattle.sg_state.specs.declared.need.Need.TheVariants.{Row}
+use Rattle.sg_state.specs.Held.{HoldsRow}
 use Rattle.sg_strata.specs.Program.{state_with}
-use Rattle.sg_unit.specs.Orderly.{IsOrderly, WasTold}
+use Rattle.sg_unit.specs.declared.op.Op.{Op}
+use Rattle.sg_unit.specs.declared.op.Op.TheVariants.{Fresh, AddEdge, SetDatum, CloseRow, Ask, Advance, Take, End}
+use Rattle.sg_unit.specs.Orderly.{Did, IsOrderly, WasTold}
 use Rattle.sg_unit.specs.Own.{own}
 use Rattle.sg_unit.specs.Trace.{Past, told}
 use Rattle.sg_unit.specs.Waiting.{WaitsOn}
@@ -27,6 +30,7 @@ use Rattle.jv_layout.specs.Readers.{types_of}
 use Rattle.jv_layout.specs.Scopes.{first_type, type_scope}
 use Rattle.jv_header.specs.Circular.{IsCircular}
 use Rattle.jv_header.specs.Header.{header_rule}
+use Rattle.jv_header.specs.Law.{AsksForOwn}
 use Rattle.jv_unit.specs.Folder.{FolderOf, IsFolderOf}
 use Rattle.jv_unit.specs.Trees.{decl_at, extends_of, implements_of}
 use Rattle.sc_app.specs.FolderGraph.{IsSkeleton, IsWhole, headers_of}
@@ -56,6 +60,30 @@ abbrev pub FolderRunsAreStuckByHeaders : Type 0
 FolderRunsAreStuckByHeaders =
     (w : FolderOf) (c : JavaCore) → IsFolderOf w → IsFolderRun w c
     → (IsPhase (run is_wanted same_datum c) Stuck) ↔ ((s : Scope) × Contains (types_of w.layout) s × (closed_in c s ≡ false))
+
+-- the units of a folder are orderly, over the skeleton: that of a type asks its header's queries in turn, each once, until it has closed the row of its supertypes,
+-- to which it adds what the header gives; that of a file adds its imports alone, and asks what is settled from the start until it has closed its rows
+abbrev pub FolderRunsAreOrderly : Type 0
+FolderRunsAreOrderly =
+    (w : FolderOf) (c : JavaCore) (g : GraphOf JavaDatum) → IsFolderOf w → IsFolderRun w c → IsSkeleton (ruled w) g
+    → AreOrderly (headers_of (ruled w) g) (setting is_wanted same_datum c) (roles_of w.layout) c.log
+
+-- what the unit of a file may ask: until it has closed the rows that it holds, what a package declares under a name
+abbrev pub MayAskForOwn : JavaCore → ℕ → Past Java (List DiagOf) JavaDatum JavaPred → Op Java (List DiagOf) JavaDatum JavaPred → Type 0
+MayAskForOwn c u past (Fresh labels datum) = Unit {0}
+MayAskForOwn c u past (AddEdge from label to) = Unit {0}
+MayAskForOwn c u past (SetDatum s d) = Unit {0}
+MayAskForOwn c u past (CloseRow s l) = Unit {0}
+MayAskForOwn c u past (Ask q) = (s : Scope) (l : ℕ) → HoldsRow (setting is_wanted same_datum c).opening u s l → Did past (CloseRow s l) ⊎ AsksForOwn q
+MayAskForOwn c u past Advance = Unit {0}
+MayAskForOwn c u past Take = Unit {0}
+MayAskForOwn c u past (End x) = Unit {0}
+
+-- so do the units of all files of a folder
+abbrev pub FilesAskForOwn : Type 0
+FilesAskForOwn =
+    (w : FolderOf) (c : JavaCore) → IsFolderOf w → IsFolderRun w c
+    → (u : ℕ) → u < length w.layout.files → IsOrderly (MayAskForOwn c u) (told (own u c.log)).past (told (own u c.log)).last
 
 -- the unit with a number asks a query that looks at signatures only when all signatures that it holds are set
 abbrev pub AsksSignaturesLast : FolderOf → JavaCore → GraphOf JavaDatum → ℕ → Type 0

@@ -1,7 +1,7 @@
 //! Laws of the runs of a folder's checkers, each the contract of a function that does nothing.
 
 ghost use Rattle.sc_app.specs.EveryOrder.{EveryOrderReportsTheSame, RunsLeadToReports};
-ghost use Rattle.sc_app.specs.FolderLaw.{FolderRunsAskSignaturesLast, FolderRunsLeaveGreatest, FolderRunsAreStuckByHeaders, EndedRunsReport, StuckRunsReport};
+ghost use Rattle.sc_app.specs.FolderLaw.{FilesAskForOwn, FolderRunsAreOrderly, FolderRunsAskSignaturesLast, FolderRunsLeaveGreatest, FolderRunsAreStuckByHeaders, EndedRunsReport, StuckRunsReport};
 ghost use Rattle.sc_app.specs.FolderReport.{FoldersHaveOneReport, CircularLinesAreOne};
 ghost use Rattle.sc_app.specs.NamedTypes.{CircularTypesNameCircularTypes};
 
@@ -10,6 +10,13 @@ ghost use Rattle.sc_app.specs.NamedTypes.{CircularTypesNameCircularTypes};
 pub fn folder_runs_leave_greatest()
     ensures greatest { FolderRunsLeaveGreatest }
     ensures stuck { FolderRunsAreStuckByHeaders }
+{}
+
+/// In each run of a folder's checkers, that of a type asks its header's queries in turn, each once, until its supertypes are told, and
+/// that of a file asks only what packages declare until its imports are told.
+pub fn folder_runs_are_orderly()
+    ensures orderly { FolderRunsAreOrderly }
+    ensures files { FilesAskForOwn }
 {}
 
 /// In each run of a folder's checkers, that of a type asks for a signature only when those of its own members are all set.

@@ -27,13 +27,16 @@ use sg_unit::{Gate, NoGate};
 use std::alloc::{AllocError, Global};
 use std::sync::{Arc, Wait};
 use std::thread::Threads;
+use thiserror::Error;
 
 /// Why a project cannot be checked.
-#[derive(Clone, Copy, Debug, PartialEq, Eq)]
+#[derive(Clone, Copy, Debug, PartialEq, Eq, Error)]
 pub enum ProjectFault {
     /// The files have no fault, and declare more than 32,768 types.
+    #[error("more than 32,768 types")]
     TooManyTypes,
     /// Memory was not found.
+    #[error("out of memory")]
     OutOfMemory,
 }
 
