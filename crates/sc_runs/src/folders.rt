@@ -12,7 +12,7 @@ use std::test::Fail;
 pub(crate) type Files<'a> = &'a str;
 
 /// A file: its path and its bytes.
-pub(crate) type File = (String, Vec<u8>);
+type File = (String, Vec<u8>);
 
 /// The files of a folder, and the report that stands behind them.
 pub(crate) fn files_and_report(folder: &str) -> Result<(Files<'_>, &str), Fail> {
@@ -41,12 +41,7 @@ fn has_path(files: &[File], path: &str) -> bool
 }
 
 /// Adds a file behind others.
-pub(crate) fn add_file(
-    alloc: Global,
-    files: &mut Vec<File>,
-    path: &str,
-    bytes: &[u8],
-) -> Result<(), Fail>
+fn add_file(alloc: Global, files: &mut Vec<File>, path: &str, bytes: &[u8]) -> Result<(), Fail>
     requires { HasDistinctPaths (files_of files.old.items) }
     ensures { OnOk result (HasDistinctPaths (files_of files.new.items)) }
 {

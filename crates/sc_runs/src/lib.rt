@@ -1,4 +1,4 @@
-//! Whole runs over folders in memory, by the top call: what is written, with any number of workers, and how the runs end.
+//! Whole runs over folders in memory, by the top call: orders of steps, workers at once, and trees and sinks that fail.
 //!
 //! All of it is tests. They stand above the crate of the top call, so that this is not proved again with them.
 #![tactic(auto)]
@@ -6,11 +6,9 @@
 #[cfg(test)]
 mod folders;
 #[cfg(test)]
-mod graph_tests;
-#[cfg(test)]
-mod listing_tests;
-#[cfg(test)]
 mod order_tests;
+#[cfg(test)]
+mod outcome_tests;
 #[cfg(test)]
 mod project_tests;
 #[cfg(test)]

@@ -1,17 +1,14 @@
-//! Whole runs over folders in memory: what is written, and how they end.
+//! Whole runs over folders in memory, with memory enough, and with trees and sinks that fail: what is written, and how they end.
 
-ghost use Rattle.std.specs.Prelude.{◌≡◌, ◌≤◌, Err, IfOk};
+ghost use Rattle.std.specs.Prelude.{◌≡◌, ◌≤◌, Err};
 ghost use Rattle.sc_io.specs.Faults.{HasRisen};
-ghost use Rattle.sc_io.specs.FileList.{files_of};
-ghost use Rattle.sc_io.specs.SourceTree.{HasDistinctPaths};
 
-use crate::folders::{File, Files, add_file, files_and_report, folder};
-use crate::tables::{FOUR_FILES, NO_SOURCE, TABLES};
+use crate::folders::{Files, files_and_report, folder};
+use crate::tables::FOUR_FILES;
 use crate::thread_tests::is_written;
 use sc_app::{Status, Which, run};
 use sc_io::{CutSink, MemSink, MemTree, PlainSink, PlainTree, Sink, SinkFault};
 use std::alloc::Global;
-use std::fmt::Write;
 use std::sync::Wait;
 use std::test::Fail;
 use std::thread::Threads;
@@ -28,7 +25,7 @@ class B {}
 ";
 
 /// Their graph.
-pub(crate) const GRAPH_OF_TWO: &str = "\
+const GRAPH_OF_TWO: &str = "\
 file A.java
 odi java.lang
 file B.java
@@ -42,36 +39,6 @@ constructor()
 end
 ";
 
-/// Files of so many spaces each, in the order of their paths.
-fn spaces(alloc: Global, sizes: &[usize]) -> Result<Vec<File>, Fail>
-    ensures { IfOk result (λ v. HasDistinctPaths (files_of v.items)) }
-{
-    let mut all = Vec::new(alloc);
-    for size in sizes {
-        let mut path = String::new(alloc);
-        write!(path, "F{}.java", all.len())?;
-        let bytes = vec![in alloc; b' '; *size]?;
-        add_file(alloc, &mut all, path.as_str(), bytes.as_slice())?;
-    }
-    Ok(all)
-}
-
-/// Whether a run over files writes this text, and ends so.
-fn is_checked<R: Threads + Wait + Sync>(
-    rt: &R,
-    alloc: Global,
-    files: Vec<File>,
-    text: &str,
-    end: Status,
-) -> bool
-    requires { HasDistinctPaths (files_of files.items) }
-{
-    let mut tree = PlainTree::new(files);
-    let mut out = PlainSink::new(alloc);
-    let status = run(rt, alloc, &["check", "x"], &mut tree, &mut out);
-    out.taken() == text.as_bytes() && status == end
-}
-
 /// The status of a report.
 pub(crate) fn status_of(report: &str) -> Status {
     if report.starts_with("ok ") {
@@ -81,127 +48,13 @@ pub(crate) fn status_of(report: &str) -> Status {
     }
 }
 
-/// Whether a run over a folder writes its report.
-fn is_reported<R: Threads + Wait + Sync>(rt: &R, alloc: Global, row: &str) -> Result<bool, Fail> {
-    let (files, report) = files_and_report(row)?;
-    let files = folder(alloc, files)?;
-    Ok(is_checked(rt, alloc, files, report, status_of(report)))
-}
-
 #[test]
-fn reports_on_folders(rt: HostRuntime) -> Result<(), Fail> {
-    let alloc = rt.alloc();
-    for table in TABLES.iter().chain([&NO_SOURCE]) {
-        for row in table.split("==\n") {
-            assert!(rt; is_reported(&rt, alloc, row)?, "{row}");
-        }
-    }
-    Ok(())
-}
-
-/// The sizes of files, and what is written of them. The first file that passes a limit is told, and of that the limit on a file alone.
-const SIZES: [(&[usize], &str, Status); 8] = [
-    (&[MEBIBYTE], "ok files 1 types 0\n", Status::Clean),
-    (
-        &[MEBIBYTE, MEBIBYTE, MEBIBYTE, MEBIBYTE],
-        "ok files 4 types 0\n",
-        Status::Clean,
-    ),
-    (
-        &[MEBIBYTE + 1],
-        "limit file bytes\n",
-        Status::Limit(Which::FileBytes),
-    ),
-    (
-        &[MEBIBYTE, MEBIBYTE, MEBIBYTE, MEBIBYTE, MEBIBYTE],
-        "limit total bytes\n",
-        Status::Limit(Which::TotalBytes),
-    ),
-    (
-        &[MEBIBYTE, MEBIBYTE, MEBIBYTE, MEBIBYTE, 1],
-        "limit total bytes\n",
-        Status::Limit(Which::TotalBytes),
-    ),
-    (
-        &[MEBIBYTE, MEBIBYTE, MEBIBYTE, MEBIBYTE, 1, MEBIBYTE + 1],
-        "limit total bytes\n",
-        Status::Limit(Which::TotalBytes),
-    ),
-    (
-        &[MEBIBYTE, MEBIBYTE, MEBIBYTE, MEBIBYTE, MEBIBYTE + 1],
-        "limit file bytes\n",
-        Status::Limit(Which::FileBytes),
-    ),
-    (
-        &[1, MEBIBYTE + 1, MEBIBYTE, MEBIBYTE, MEBIBYTE, MEBIBYTE],
-        "limit file bytes\n",
-        Status::Limit(Which::FileBytes),
-    ),
-];
-
-/// The first of the rows of sizes that is told otherwise.
-fn first_wrong_sizes<R: Threads + Wait + Sync>(
-    rt: &R,
-    alloc: Global,
-) -> Result<Option<usize>, Fail> {
-    for (at, row) in SIZES.iter().enumerate() {
-        let (sizes, report, end) = *row;
-        let files = spaces(alloc, sizes)?;
-        if !is_checked(rt, alloc, files, report, end) {
-            return Ok(Some(at));
-        }
-    }
-    Ok(None)
-}
-
-#[test]
-fn takes_bytes_up_to_the_limits(rt: HostRuntime) -> Result<(), Fail> {
-    assert_eq!(rt; first_wrong_sizes(&rt, rt.alloc())?, None);
-    Ok(())
-}
-
-/// Words that are no command.
-const NO_COMMANDS: [&[&str]; 25] = [
-    &[],
-    &["check"],
-    &["check", ""],
-    &["check", "-x"],
-    &["check", "x", "y"],
-    &["check", "--workers=1", "--workers=2", "x"],
-    &["check", "--workers=0", "x"],
-    &["check", "--workers=01", "x"],
-    &["check", "--workers=65", "x"],
-    &["check", "--workers=100", "x"],
-    &["check", "--workers=4294967297", "x"],
-    &["check", "--workers=+1", "x"],
-    &["check", "--workers=1 ", "x"],
-    &["check", "--workers=", "x"],
-    &["check", "--workers", "x"],
-    &["check", "-workers=1", "x"],
-    &["graph"],
-    &["graph", "-x"],
-    &["answers", ""],
-    &["print", "x"],
-    &["gen"],
-    &["gen", "0"],
-    &["gen", "1001"],
-    &["gen", "01"],
-    &["gen", "--workers=65", "1"],
-];
-
-/// The first of these words that are not refused.
-fn first_taken<R: Threads + Wait + Sync>(rt: &R, alloc: Global) -> Result<Option<usize>, Fail> {
-    for (at, words) in NO_COMMANDS.iter().enumerate() {
-        if !is_written(rt, alloc, words, TWO_FILES, "usage\n", Status::Usage)? {
-            return Ok(Some(at));
-        }
-    }
-    Ok(None)
-}
-
-#[test]
-fn refuses_words_that_are_no_command(rt: HostRuntime) -> Result<(), Fail> {
-    assert_eq!(rt; first_taken(&rt, rt.alloc())?, None);
+fn memory_is_enough(rt: HostRuntime) -> Result<(), Fail> {
+    let words = ["check", "x"];
+    let files = "-- A.java\nclass A {}\n";
+    let report = "ok files 1 types 1\n";
+    let holds = is_written(&rt, rt.alloc(), &words, files, report, Status::Clean)?;
+    assert!(rt; holds);
     Ok(())
 }
 
