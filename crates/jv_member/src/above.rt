@@ -69,6 +69,7 @@ pub fn code_diags(
 fn put(set: &mut ScopeSet, scope: Scope) -> Result<(), AllocError>
     ensures { OnOk result (set.new ≡ put scope_cmp set.old scope) }
 {
+    // For the proof alone, which takes from this call that the set rises.
     let _rising = set.as_slice();
     set.insert(scope)
 }

@@ -81,6 +81,7 @@ pub(crate) fn ended_diags(
     ensures reports { IfOk result (λ ds. Reports (ruled (folder_of folder.now)) ds) }
     ensures found { IfOk result (IsFoundBy (folder_of folder.now) core.now) }
 {
+    // Contracts alone read the folder.
     let _ = folder;
     folder_runs_report();
     joined(alloc, core)

@@ -69,6 +69,7 @@ impl PathTree {
         ensures there { result < length self.now.paths }
         ensures none { path_at self.now.paths result ≡ [] }
     {
+        // For the proof alone, which takes from the nodes that the first path is there.
         let _ = &self.nodes;
         0
     }

@@ -92,6 +92,7 @@ fn take_row<I: Instance>(
     ensures taken { IfOk result (HasTaken (state_of h.now) (NextOf place l) tree.old tree.new) }
     ensures lists { ListsOn tree.old tree.new }
 {
+    // For the proof alone, which takes from this call how many paths there may be.
     let _paths = tree.nodes.len();
     match h.closed_row(tree.nodes.at(place).step.to, l) {
         None => {
@@ -122,6 +123,7 @@ fn take_datum<I: Instance>(
     ensures taken { IfOk result (HasTaken (state_of h.now) (WholeOf place) tree.old tree.new) }
     ensures lists { ListsOn tree.old tree.new }
 {
+    // For the proof alone, which takes from this call how many paths there may be.
     let _paths = tree.nodes.len();
     match h.datum(tree.nodes.at(place).step.to) {
         DatumState::Unset => {

@@ -99,6 +99,7 @@ impl<I: Instance> Search<I> {
         ensures more { self.old.front.explored ≤ self.new.front.explored }
         ensures err { OnErr result (self.new ≡ self.old) }
     {
+        // For the proof alone, which takes from this call what holds of each held graph.
         let _holder = h.datum_holder(self.query.start);
         let kind = t.kind(self.query.kind);
         let mark = self.tree.mark();

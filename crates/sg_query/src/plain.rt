@@ -27,6 +27,7 @@ pub fn ans_plain<I: Instance>(
     requires start { HasScope g.now q.now.start }
     ensures { IfOk result (IsAnswer g.now (asked I.wants I.same_datum t.now q.now)) }
 {
+    // For the proof alone, which takes from this call that the graph is sound.
     let _scopes = g.scopes();
     let kind = t.kind(q.kind);
     let walk = Walk::<I> {

@@ -177,6 +177,7 @@ fn unshadowed_each<I: Instance>(
     ensures unshadowed { IfOk result (λ r. AreUnshadowed I.same_datum (precedes order.now) (map (found_in paths.now) all.items) (map (found_in paths.now) r.items)) }
     ensures strict { IsStrict (precedes order.now) }
 {
+    // For the proof alone, which takes from this call that the order is strict.
     let _end = order.before(Mark::End, Mark::End);
     if all.len() < 2 {
         return Ok(all);

@@ -105,6 +105,7 @@ impl<S: Script> Follower<S> {
             match self.script.read(stage)? {
                 Known::Need(query) => return self.ask(query, stage),
                 Known::Is(mut writes) => {
+                    // For the proof alone, which takes from this call that the number of writes fits its type.
                     let _count = writes.len();
                     if let Some(write) = writes.take_first() {
                         self.stage = stage + 1;

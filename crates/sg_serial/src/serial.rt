@@ -71,6 +71,7 @@ pub fn run_serial<U: Unit>(
     let mut core = core;
     let mut units = units;
     let mut replies = no_replies(alloc, units.len())?;
+    // For the proof alone, which takes from this call that the log is a legal run.
     let _log = core.log();
     for unit in order {
         step::<U>(&mut core, &mut units, &mut replies, *unit)?;

@@ -157,6 +157,7 @@ pub fn listed_for(
             Err(error) => return Err(error),
         }
     }
+    // For the proof alone, which takes from this call that the number of units fits its type.
     let _count = found.len();
     Ok(found)
 }
