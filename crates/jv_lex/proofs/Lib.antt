@@ -9,3 +9,4 @@ pub mod Sources
 pub mod Texts
 pub mod Scans
 pub mod Counts
+pub mod Rising

@@ -1,5 +1,6 @@
 -- The tokens of a source, and its first bad place.
-use Rattle.std.specs.Prelude.{◌≡◌, ℕ, ◌-◌, ◌<◌, Bool, true, false, List, [], ◌∷◌, length, Option, Some, None, ◌⊎◌}
+use Rattle.std.specs.Prelude.{◌≡◌, ℕ, ◌-◌, ◌<◌, Bool, true, false, List, [], ◌∷◌, length, map, Option, Some, None, ◌⊎◌}
+use Rattle.std.specs.List.Sorted.{IsStrictlyIncreasing}
 use Rattle.std.specs.Str.{IsUtf8, IsValidUpTo, IsCharBoundary, chars, encode_utf8_all}
 use Rattle.jv_lex.specs.Gap.{behind_gap}
 use Rattle.jv_lex.specs.Text.{IsFirstToken, MayFollow, begins_literal}
@@ -79,3 +80,7 @@ TokensExcludeFaults = (bytes : List ℕ) (ts : List Token) (l : Bool) (at : ℕ)
 -- a source that is UTF-8 has a list of tokens, or a first bad place of some kind
 abbrev pub TextsHaveTokensOrAFault : Type 0
 TextsHaveTokensOrAFault = (bytes : List ℕ) → IsUtf8 bytes → ((ts : List Token) × Tokenizes bytes ts) ⊎ ((literal : Bool) × (at : ℕ) × HasBad literal bytes at)
+
+-- the tokens of a source rise by place: each starts behind the start of the one before
+abbrev pub TokensRiseByPlace : Type 0
+TokensRiseByPlace = (bytes : List ℕ) (ts : List Token) → Tokenizes bytes ts → IsStrictlyIncreasing (map (λ t. t.start) ts)
