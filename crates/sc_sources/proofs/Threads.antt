@@ -1,11 +1,11 @@
 -- Sources that several threads read: parts of them one behind another, and what all of them come to.
-use Rattle.std.proofs.Common.{◌≡◌, ℕ, zero, suc, ◌+◌, ◌<◌, ◌≤◌, List, [], ◌∷◌, ◌++◌, length, map, take, get_or, Some, Result, refl, sym, ap, ◌∙◌, subst, arith, Ok, Err, append-nil, Bool, true, false, nat_eq, if◌then◌else◌}
+use Rattle.std.proofs.Common.{◌≡◌, ℕ, zero, suc, ◌+◌, ◌<◌, ◌≤◌, List, [], ◌∷◌, ◌++◌, length, map, take, drop, get_or, Some, Result, refl, sym, ap, ◌∙◌, subst, arith, Ok, Err, append-nil, Bool, true, false, nat_eq, if◌then◌else◌}
 use Rattle.std.specs.Prelude.{slice_get, IfOk}
 use Rattle.std.specs.List.{All}
-use Rattle.std.proofs.lemmas.List.{take_more, map-append, length-append, length-map}
+use Rattle.std.proofs.lemmas.List.{take_more, take-append-drop, map-append, length-append, length-map, length-take}
 use Rattle.std.proofs.lemmas.List.Elements.{All-head, All-tail, All-nil, All-cons}
 use Rattle.std.proofs.lemmas.Option.{slice_get-get_or}
-use Rattle.jv_diag.specs.Plain.{DiagOf, diagnostic}
+use Rattle.jv_diag.specs.Plain.{diagnostic}
 use Rattle.jv_lex.specs.declared.token.Token.{Token}
 use Rattle.jv_lex.specs.declared.token.TokenKind.{TokenKind}
 use Rattle.jv_lex.specs.declared.token.TokenKind.TheVariants as k
@@ -121,9 +121,6 @@ faults_append file number [] ys e = let same : file ≡ number = omega (arith, e
 faults_append file number (tree u ∷ xs) ys e = faults_append (suc file) number xs ys (omega (arith, e))
 faults_append file number (fault at code ∷ xs) ys e = ap (λ ds. diagnostic file at code [] ∷ ds) (faults_append (suc file) number xs ys (omega (arith, e)))
 
-pub no_faults_append : (ds : List DiagOf) → ds ++ [] ≡ ds
-no_faults_append ds = append-nil ds
-
 -- the trees and faults of the ones and then of the others
 pub grown_joined : (first second : ℕ) (xs ys : List Named) (one other g : Grown) → IsGrown first xs one → IsGrown second ys other → second ≡ first + length xs
     → g.units.items ≡ one.units.items ++ other.units.items → g.faults ≡ one.faults ++ other.faults → IsGrown first (xs ++ ys) g
@@ -136,13 +133,15 @@ grown_joined first second xs ys one other g a b at units faults = record {
       ∙ sym (faults_append first second a.outcomes b.outcomes (omega (arith, at, come_count xs a.outcomes a.come)));
 }
 
-pub both_joined : {E : Type 0} (first second : ℕ) (xs ys : List Named) (one other : Grown) (r : Result Grown E) → IsGrown first xs one → IsGrown second ys other → second ≡ first + length xs
-    → IfOk r (λ g. g.units.items ≡ one.units.items ++ other.units.items) → IfOk r (λ g. g.faults ≡ one.faults ++ other.faults) → IfOk r (IsGrown first (xs ++ ys))
-both_joined first second xs ys one other (Ok g) a b at units faults = grown_joined first second xs ys one other g a b at units faults
-both_joined first second xs ys one other (Err e) a b at units faults = tt
-
-pub none_grown : (first : ℕ) (g : Grown) → g.units.items ≡ [] → g.faults ≡ [] → IsGrown first [] g
-none_grown first g units faults = record { outcomes = []; come = tt; trees = ap (map tree_of) units; faults = faults }
+-- the same of so many files of a list and then of the others
+pub parts_joined : {E : Type 0} (first size : ℕ) (items front back : List Named) (one other : Grown) (r : Result Grown E) → size ≤ length items → front ≡ take size items → back ≡ drop size items
+    → IsGrown first front one → IsGrown (first + size) back other → IfOk r (λ g. g.units.items ≡ one.units.items ++ other.units.items) → IfOk r (λ g. g.faults ≡ one.faults ++ other.faults)
+    → IfOk r (IsGrown first items)
+parts_joined first size items front back one other (Err e) within f b is are units faults = tt
+parts_joined first size items front back one other (Ok g) within f b is are units faults =
+    let whole : front ++ back ≡ items = ap (λ xs. xs ++ back) f ∙ ap (λ xs. take size items ++ xs) b ∙ take-append-drop size items in
+    let second : first + size ≡ first + length front = omega (arith, ap length f, length-take size items) in
+    subst (λ xs. IsGrown first xs g) whole (grown_joined first (first + size) front back one other g is are second units faults)
 
 module _ (first : ℕ) (items : List Named) (x : Named) (old new : Grown) (is : IsGrown first items old) where
   pub tree_grown : (u : File) → ComesTo x (tree (tree_of u)) → new.units.items ≡ old.units.items ++ u ∷ [] → new.faults ≡ old.faults → IsGrown first (items ++ x ∷ []) new

@@ -24,33 +24,36 @@ pub(crate) struct Grown {
     pub(crate) faults: DiagList,
 }
 
-/// What files of these terminals come to, the first of which has this number, by so many threads, which get about as many terminals each.
+/// What files of these terminals come to, the first of which has this number, by so many threads, which get about as many terminals each. The
+/// terminals of a file are let go as soon as it has come to its tree or its fault.
 pub(crate) fn grow_all<R: Threads + Sync>(
     rt: &R,
     alloc: Global,
     first: u32,
-    items: &[Named],
+    named: Vec<Named>,
     workers: u32,
 ) -> Result<Grown, AllocError>
-    requires { first + length items.now < 2 ^ 32 }
-    ensures { IfOk result (IsGrown first items.now) }
+    requires { first + length named.items < 2 ^ 32 }
+    ensures { IfOk result (IsGrown first named.items) }
 {
-    if workers < 2 || items.len() < 2 {
-        return grow_each(alloc, first, items);
+    if workers < 2 || named.len() < 2 {
+        return grow_each(alloc, first, named);
     }
     let fewer = workers / 2;
     let others = workers - fewer;
-    let (front, back) = items.split_at(cut(items, fewer, workers));
-    let next = first + front.len() as u32;
+    let mut front = named;
+    let size = cut(&front, fewer, workers);
+    let back = front.split_off(size)?;
+    let next = first + size as u32;
     let (one, other) = join(
         rt,
-        || -> Result<Grown, AllocError>
-            requires { IsSync R.row × (first + length front.now < 2 ^ 32) }
-            ensures { IfOk result (IsGrown first front.entry.now) }
+        move || -> Result<Grown, AllocError>
+            requires { IsSync R.row × (first + length front.items < 2 ^ 32) }
+            ensures { IfOk result (IsGrown first front.items) }
         { grow_all(rt, alloc, first, front, fewer) },
-        || -> Result<Grown, AllocError>
-            requires { IsSync R.row × (next + length back.now < 2 ^ 32) }
-            ensures { IfOk result (IsGrown next back.entry.now) }
+        move || -> Result<Grown, AllocError>
+            requires { IsSync R.row × (next + length back.items < 2 ^ 32) }
+            ensures { IfOk result (IsGrown next back.items) }
         { grow_all(rt, alloc, next, back, others) },
     );
     joined(one?, other?)
@@ -75,16 +78,18 @@ pub(crate) fn joined(one: Grown, other: Grown) -> Result<Grown, AllocError>
 }
 
 /// What files of these terminals come to, one after another.
-fn grow_each(alloc: Global, first: u32, items: &[Named]) -> Result<Grown, AllocError>
-    requires { first + length items.now < 2 ^ 32 }
-    ensures { IfOk result (IsGrown first items.now) }
+fn grow_each(alloc: Global, first: u32, named: Vec<Named>) -> Result<Grown, AllocError>
+    requires { first + length named.items < 2 ^ 32 }
+    ensures { IfOk result (IsGrown first named.items) }
 {
     let mut grown = Grown {
         units: Vec::new(alloc),
         faults: DiagList::empty(alloc),
     };
-    for i in 0..items.len() {
-        grown.add(alloc, first + i as u32, &items[i])?;
+    let mut number = first;
+    for item in named {
+        grown.add(alloc, number, &item)?;
+        number += 1;
     }
     Ok(grown)
 }

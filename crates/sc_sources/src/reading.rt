@@ -94,7 +94,7 @@ pub(crate) fn read_behind<R: Threads + Sync>(
     } = reading;
     let mut names = names;
     let named = list_all(rt, alloc, files, workers, &mut names)?;
-    let grown = grow_all(rt, alloc, count, &named, workers)?;
+    let grown = grow_all(rt, alloc, count, named, workers)?;
     let Grown { units, faults } = joined(Grown { units, faults }, grown)?;
     Ok(Reading {
         names,
