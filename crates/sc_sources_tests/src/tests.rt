@@ -166,43 +166,56 @@ fn shown_in_threads<R: Threads + Sync>(
     told(alloc, read_in_threads(rt, alloc, files, workers)?)
 }
 
-/// Six files that declare one type each, with a field in the last.
-const SIX: &str = "class A {}
+/// Six files, one a line, and what they come to with 20,000 bytes a file: all to trees, four to faults, and each to a fault.
+const SIX_FILES: [(&str, &str); 3] = [
+    (
+        "class A {}
 class B {}
 class C {}
 class D { A a; }
 class E {}
-class F { int b; }";
-
-/// The same number of files, of which four have a fault of each kind.
-const FAULTY: &str = "class A { # }
+class F { int b; }",
+        "8 trees, 22 names",
+    ),
+    (
+        "class A { # }
 class B {}
 class C { int a = 2147483648; }
 enum D {}
 class E {}
-class F { int b }";
+class F { int b }",
+        "2:10: 5 bad token; 4:18: 3 bad literal; 5:0: 2 syntax error; 7:16: 2 syntax error; ",
+    ),
+    (
+        "class A { # }
+class B {
+class C { int a = 2147483648; }
+enum D {}
+#
+class F { int b }",
+        "2:10: 5 bad token; 3:20000: 2 syntax error; 4:18: 3 bad literal; 5:0: 2 syntax error; 6:0: 5 bad token; 7:16: 2 syntax error; ",
+    ),
+];
 
-/// What `SIX` and `FAULTY` come to with 20,000 bytes a file, whatever the number of threads.
-fn six_are_read<R: Threads + Sync>(rt: &R, alloc: Global, workers: u32) -> Result<bool, Fail> {
-    let six = padded_files(alloc, SIX, 20_000)?;
-    let found = shown_in_threads(rt, alloc, &six, workers)?;
-    Ok(found.as_str() == "8 trees, 22 names")
-}
-
-fn faults_are_told<R: Threads + Sync>(rt: &R, alloc: Global, workers: u32) -> Result<bool, Fail> {
-    let faulty = padded_files(alloc, FAULTY, 20_000)?;
-    let found = shown_in_threads(rt, alloc, &faulty, workers)?;
-    Ok(
-        found.as_str()
-            == "2:10: 5 bad token; 4:18: 3 bad literal; 5:0: 2 syntax error; 7:16: 2 syntax error; ",
-    )
+/// Whether files of these lines, with 20,000 bytes a file, come to this by so many threads.
+fn come_to<R: Threads + Sync>(
+    rt: &R,
+    alloc: Global,
+    lines: &str,
+    wanted: &str,
+    workers: u32,
+) -> Result<bool, Fail> {
+    let files = padded_files(alloc, lines, 20_000)?;
+    let found = shown_in_threads(rt, alloc, &files, workers)?;
+    Ok(found.as_str() == wanted)
 }
 
 #[test]
 fn threads_read_the_same(rt: HostRuntime) -> Result<(), Fail> {
-    for workers in [0, 1, 2, 3, 7, 64] {
-        assert!(rt; six_are_read(&rt, rt.alloc(), workers)?);
-        assert!(rt; faults_are_told(&rt, rt.alloc(), workers)?);
+    for (lines, wanted) in SIX_FILES {
+        for workers in [0, 1, 2, 3, 7, 64] {
+            assert!(rt; come_to(&rt, rt.alloc(), lines, wanted, workers)?);
+        }
     }
     Ok(())
 }
