@@ -262,20 +262,19 @@ pub fn read_members(
 
 /// All that is checked of the members of a type (JLS 8.3, 8.4, 8.8, 9.3, 9.4), by its declaration: each declaration itself; each
 /// method against those that it is declared over; the methods that meet in the type; and the constructors of the superclass that
-/// its own call. It takes the time of the answers and of the texts, and for each name of a method that of comparing each pair of
-/// results.
+/// its own call. It takes the time of the answers and of the texts, for each name of a method that of comparing each pair of
+/// results, and that of the layout, for the table of its duplicates; who has that table calls `read_members`.
 #[tactic(auto, using(crate::proofs::MemberSteps::member_steps))]
 pub fn check_members(
     alloc: Global,
     l: &Layout,
-    declarations: &Declarations,
     names: &Names,
     o: &Oracle,
     decl: &TypeDecl,
     ty: Scope,
 ) -> Result<Known<DiagList, Query<JavaPred>>, AllocError>
-    requires { declarations.now ≡ l.now }
     ensures { IfOk result (IsKnown (reply_to o.now) (members_rule l.now names.now ty (type_decl_tree decl.now))) }
 {
-    Known::from_found(read_members(alloc, l, declarations, names, o, decl, ty))
+    let declarations = l.declarations(alloc)?;
+    Known::from_found(read_members(alloc, l, &declarations, names, o, decl, ty))
 }

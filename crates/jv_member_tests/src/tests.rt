@@ -262,8 +262,7 @@ fn checked(
     decl: &TypeDecl,
     ty: Scope,
 ) -> Result<String, Fail> {
-    let declarations = l.declarations(alloc)?;
-    match check_members(alloc, l, &declarations, names, o, decl, ty)? {
+    match check_members(alloc, l, names, o, decl, ty)? {
         Known::Is(diags) => told(alloc, &diags),
         Known::Need(query) => needed(alloc, &query),
     }
