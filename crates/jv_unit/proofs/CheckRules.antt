@@ -16,8 +16,8 @@ use Rattle.sg_reading.proofs.Steps.{ask_err, ask_ok, done_reads, memory_stops, s
 use Rattle.jv_diag.specs.Plain.{DiagOf}
 use Rattle.jv_expr.specs.declared.body_progress.BodyProgress.{BodyProgress}
 use Rattle.jv_expr.specs.declared.begun_body.BegunBody.{BegunBody}
-use Rattle.jv_expr.specs.Bodies.{ctor_rule}
-use Rattle.jv_expr.specs.Progress.{ctor_statements_left, left_of, method_statements_left, optional_left}
+use Rattle.jv_expr.specs.Bodies.{ctor_rule, method_rule}
+use Rattle.jv_expr.specs.Progress.{ctor_left, ctor_statements_left, left_of, method_left, method_statements_left, optional_left}
 use Rattle.jv_expr.specs.Bodies.{optional_body, statements_rule}
 use Rattle.jv_expr.proofs.StatementEnds.{plain_memory, plain_stops}
 use Rattle.jv_header.proofs.RowProgress.{dependence_so_far_added}
@@ -31,7 +31,7 @@ use Rattle.jv_member.specs.Own.{OwnMember, own_field, own_method, own_ctor, defa
 use Rattle.jv_names.specs.declared.kinds.TheConstants.{METHODS}
 use Rattle.jv_names.specs.Replies.{Rule, for_any}
 use Rattle.jv_tree.specs.declared.name.Ident.{Ident}
-use Rattle.jv_tree.specs.DeclTree.{MethodTree}
+use Rattle.jv_tree.specs.DeclTree.{CtorTree, MethodTree}
 use Rattle.jv_tree.specs.StmtTree.{StmtTrees}
 use Rattle.jv_unit.specs.declared.begun_checks.BegunChecks.{BegunChecks}
 use Rattle.jv_unit.specs.declared.begun_head.BegunHead.{BegunHead}
@@ -63,6 +63,14 @@ module _ (l : LayoutOf) (names : List (List ℕ)) (c : Scope) (extends : List (L
   new_own blanks s (own_method m) = new_optional s m m.body
   new_own blanks s (own_ctor k) = none_left (ctor_rule l names c extends blanks s k) (ctor_statements_left l names c extends blanks k) p.begun new
   new_own blanks s (default_ctor name) = refl
+
+  -- so all of it is left
+  pub new_method : (reply : Replies) (s : Scope) (d : MethodTree) → HasResidual reply (method_rule l names c extends s d) (method_left l names c extends s d p)
+  new_method reply s d = residual_here reply (method_rule l names c extends s d) (method_left l names c extends s d p) (sym (new_optional s d d.body))
+
+  pub new_ctor : (reply : Replies) (blanks : List Scope) (s : Scope) (d : CtorTree) → HasResidual reply (ctor_rule l names c extends blanks s d) (ctor_left l names c extends blanks s d p)
+  new_ctor reply blanks s d =
+      residual_here reply (ctor_rule l names c extends blanks s d) (ctor_left l names c extends blanks s d p) (sym (none_left (ctor_rule l names c extends blanks s d) (ctor_statements_left l names c extends blanks d) p.begun new))
 
 -- ---- one body
 

@@ -1,5 +1,6 @@
 pub mod CheckPlaces
 pub mod CheckRules
+pub mod DeclaredBodies
 pub mod FileRules
 pub mod Folders
 pub mod HeadRules

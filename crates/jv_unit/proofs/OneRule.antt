@@ -32,14 +32,14 @@ use Rattle.jv_names.specs.Members.{find_ends}
 use Rattle.jv_names.specs.Replies.{Rule, for_any}
 use Rattle.jv_tree.specs.declared.name.Ident.{Ident}
 use Rattle.jv_tree.specs.DeclTree.{TypeDeclTree, type_decl}
-use Rattle.jv_unit.specs.Checks.{Check, overriding, meeting, calling, methods}
+use Rattle.jv_unit.specs.Checks.{Check, overriding, meeting, calling}
 use Rattle.jv_unit.specs.DeclaredBodies.{blanks_among, body_of, init_of, member_with, placed_members}
 use Rattle.jv_unit.specs.Folder.{FolderOf, IsFolderOf}
 use Rattle.jv_unit.specs.Law.{BodiesAreChecked, ComesTo, MembersAreChecked, declared_both, members_checked}
 use Rattle.jv_unit.specs.MemberBodies.{is_blank, member_body, own_body, type_blanks}
 use Rattle.jv_unit.specs.Owns.{own_at}
 use Rattle.jv_unit.specs.Plans.{calling_rule, check_rule, declaration_part, meeting_rule, overriding_rule}
-use Rattle.jv_unit.specs.Trees.{all_decls, decl_at, extends_of, name_of}
+use Rattle.jv_unit.specs.Trees.{decl_at, extends_of, name_of}
 use Rattle.jv_unit.proofs.Parts.{asked_before, each_map, in_parts}
 use Rattle.jv_unit.proofs.Trees.{types_of_decls}
 use Rattle.jv_unit.proofs.TypeOwns.{owns_are}

@@ -1,5 +1,5 @@
 -- The members of a type by its declaration are those that have its number in the layout.
-use Rattle.std.proofs.Common.{◌≡◌, ℕ, zero, suc, ◌+◌, ◌==◌, ◌<◌, ◌≤◌, Bool, true, false, cond, List, [], ◌∷◌, ◌++◌, length, map, get_or, Option, None, Some, refl, sym, ap, ◌∙◌, arith, append_assoc}
+use Rattle.std.proofs.Common.{◌≡◌, ℕ, zero, suc, ◌+◌, ◌==◌, ◌<◌, Bool, true, false, cond, List, [], ◌∷◌, ◌++◌, length, map, get_or, Option, None, Some, refl, sym, ap, ◌∙◌, arith, append_assoc}
 use Rattle.std.specs.Prelude.{if◌then◌else◌, ◌||◌}
 use Rattle.std.specs.List.{cons_option, filter, filter_map, flat_map, range_with_len}
 use Rattle.std.proofs.lemmas.Bool.{eq-eqb, eqb-true, ne_eqb}
@@ -15,7 +15,7 @@ use Rattle.jv_layout.specs.Folder.{layout_of, modifiers_of, has_ctor, decl_count
 use Rattle.jv_layout.specs.Readers.{member_at, members_of_type, no_member}
 use Rattle.jv_member.specs.Own.{OwnMember, own_field, own_method, own_ctor, default_ctor, body_own, no_own, own_members}
 use Rattle.jv_unit.specs.Owns.{default_own, decl_owns, body_owns, all_owns, own_at}
-use Rattle.jv_unit.proofs.Trees.{length-decls_in, length-file_decls, types_of_decls}
+use Rattle.jv_unit.proofs.Trees.{length-decls_in, length-file_decls}
 use Rattle.jv_unit.specs.Trees.{decls_in, body_decls, all_decls, decl_at, no_decl}
 
 -- a member with the number of its type

@@ -6,7 +6,8 @@
 //! their bodies. What is checked behind the header is a list (`specs/Checks.antt`), done one check after another: a missing reply
 //! repeats at most the check that asks for it. All units of a folder share its layout, names and trees (`Folder`). `java_units`
 //! makes them: each follows the script of its number (`JavaScript`), so it asks what its rules ask and gives what they give, and
-//! no unit is written by hand.
+//! no unit is written by hand. The bodies and the initializers of members can be checked by the declaration of their type alone too
+//! (`check_body`, `check_init`, `specs/DeclaredBodies.antt`), by the same rules.
 #![tactic(auto)]
 
 mod begun_checks;
@@ -15,6 +16,9 @@ mod begun_type;
 mod body_rules;
 mod check_rules;
 mod decl_paths;
+mod declared_body;
+mod declared_init;
+mod declared_members;
 mod file_rules;
 mod folder;
 mod head_rules;
@@ -27,6 +31,8 @@ mod type_rules;
 mod unit_rules;
 mod units;
 
+pub use declared_body::check_body;
+pub use declared_init::check_init;
 pub use folder::Folder;
 pub use java_script::JavaScript;
 pub use units::{JavaUnit, java_units};

@@ -1,0 +1,62 @@
+//! The check of one initializer.
+
+ghost use Rattle.std.specs.Prelude.{IfOk};
+ghost use Rattle.sg_reading.specs.Stop.{IsKnown, Reads};
+ghost use Rattle.jv_names.specs.Replies.{reply_to};
+ghost use Rattle.jv_tree.specs.DeclTree.{type_decl_tree};
+ghost use Rattle.jv_unit.specs.DeclaredBodies.{declared_init};
+
+use crate::declared_members::member_with;
+use jv_diag::DiagList;
+use jv_expr::read_field_init;
+use jv_instance::JavaPred;
+use jv_layout::Layout;
+use jv_member::{MemberDecl, own_members};
+use jv_names::Oracle;
+use jv_tree::{Names, TypeDecl};
+use sg_base::Scope;
+use sg_query::Query;
+use sg_reading::{Known, Stop};
+use std::alloc::{AllocError, Global};
+
+/// What is wrong in the initializer of a field of a type, as far as the replies tell it, or the first query that has no reply.
+#[tactic(auto, using(sg_reading::proofs::Steps::reading_steps))]
+fn read_declared_init(
+    alloc: Global,
+    l: &Layout,
+    names: &Names,
+    o: &Oracle,
+    decl: &TypeDecl,
+    ty: Scope,
+    member: Scope,
+) -> Result<DiagList, Stop<Query<JavaPred>>>
+    ensures { Reads (reply_to o.now) (declared_init l.now names.now ty (type_decl_tree decl.now) member) result }
+{
+    let own = own_members(alloc, decl)?;
+    let (scopes, members) = (l.members(ty), own.as_slice());
+    match member_with(member, scopes, members) {
+        MemberDecl::Field(_, _, variable) => {
+            let extends = decl.extends.as_slice();
+            read_field_init(alloc, l, names, o, ty, extends, member, variable)
+        }
+        _ => Ok(DiagList::empty(alloc)),
+    }
+}
+
+/// What is wrong in the initializer of a field (JLS 8.3.2), by the declaration of its type: of the scopes of the type's members `member` is
+/// that of the field. Other members have no initializer, and nothing is said where no member has that scope. It takes time in the
+/// members of the type, in the expression and in the answers that it reads.
+#[tactic(auto, using(sg_reading::proofs::Steps::reading_steps))]
+pub fn check_init(
+    alloc: Global,
+    l: &Layout,
+    names: &Names,
+    o: &Oracle,
+    decl: &TypeDecl,
+    ty: Scope,
+    member: Scope,
+) -> Result<Known<DiagList, Query<JavaPred>>, AllocError>
+    ensures { IfOk result (IsKnown (reply_to o.now) (declared_init l.now names.now ty (type_decl_tree decl.now) member)) }
+{
+    Known::from_found(read_declared_init(alloc, l, names, o, decl, ty, member))
+}
