@@ -1,5 +1,5 @@
 -- Operations that a seat answers.
-use Rattle.std.proofs.Common.{◌≡◌, ℕ, ◌+◌, ◌<◌, ◌^◌, List, ◌∷◌, [], ◌++◌, inl, inr, Bool, refl, sym, ap, ◌∙◌, subst, Option, Some, None, length, IsTrue, arith}
+use Rattle.std.proofs.Common.{◌≡◌, ℕ, ◌<◌, List, inl, inr, Bool, refl, sym, ap, subst, Option, Some, length}
 use Rattle.std.specs.Prelude.{IfSome}
 use Rattle.sg_base.specs.Graph.{IsGraph, HasScope}
 use Rattle.sg_query.specs.declared.answer.Answer.{Answer}

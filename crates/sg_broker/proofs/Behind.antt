@@ -1,9 +1,8 @@
 -- Events that a seat keeps: they are a legal run behind all that it has seen, and behind each later log.
-use Rattle.std.proofs.Common.{◌≡◌, ℕ, ◌+◌, ◌<◌, ◌^◌, List, [], ◌∷◌, ◌++◌, ◌⊎◌, inl, inr, Bool, true, IsTrue, refl, sym, ap, ◌∙◌, subst, Option, Some, None, length, length-append, append_assoc, append-nil, arith}
+use Rattle.std.proofs.Common.{◌≡◌, ℕ, ◌+◌, ◌<◌, ◌^◌, List, [], ◌∷◌, ◌++◌, ◌⊎◌, inl, inr, Bool, IsTrue, refl, sym, ap, ◌∙◌, subst, Option, Some, None, length, length-append, append_assoc, append-nil, arith}
 use Rattle.std.specs.Prelude.{IfSome}
 use Rattle.sg_base.specs.Graph.{IsGraph, HasScope}
 use Rattle.sg_base.specs.State.{Follows}
-use Rattle.sg_query.specs.declared.query.Query.{Query}
 use Rattle.sg_query.specs.Query.{KindOf}
 use Rattle.sg_state.specs.Held.{HeldOf, state_of}
 use Rattle.sg_state.specs.Opening.{IsOpening}
@@ -13,13 +12,13 @@ use Rattle.sg_unit.specs.declared.op.Op.TheVariants.{Ask as AskOf, Advance, Take
 use Rattle.sg_unit.specs.declared.reply.Reply.{Reply}
 use Rattle.sg_unit.specs.declared.reply.Reply.TheVariants.{Moved, Ready as ReadyNow, Answer as Answered}
 use Rattle.sg_unit.specs.Own.{own, MayBy, CanReply}
-use Rattle.sg_unit.specs.Run.{Setting, RunOf, run_of, run_from, opened, after, IsFreeUnit, no_ask, Asking}
+use Rattle.sg_unit.specs.Run.{Setting, RunOf, run_of, run_from, opened, after, IsFreeUnit}
 use Rattle.sg_unit.specs.Step.{May, IsRun, IsRunFrom}
-use Rattle.sg_unit.proofs.Steps.{states_follow, front_run, opened_sound, run_sound, run_append}
+use Rattle.sg_unit.proofs.Steps.{states_follow, front_run, opened_sound, run_sound}
 use Rattle.sg_unit.proofs.Telling.{own_within, within_self, own_allow}
 use Rattle.sg_core.specs.declared.ahead.Ahead.{Ahead}
 use Rattle.sg_core.specs.declared.found_ask.FoundAsk.{FoundAsk}
-use Rattle.sg_core.specs.declared.found_ask.FoundAsk.TheVariants.{Nothing, Found, Ready}
+use Rattle.sg_core.specs.declared.found_ask.FoundAsk.TheVariants.{Nothing}
 use Rattle.sg_core.specs.Ahead.{IsAhead, IsAheadOf}
 use Rattle.sg_core.specs.Beside.{KeepsOne, KeepsAll}
 use Rattle.sg_core.specs.Core.{entry}
@@ -27,9 +26,7 @@ use Rattle.sg_core.specs.Sight.{SightOf}
 use Rattle.sg_core.proofs.Beside.{own_append, all_own, all_later, run_keeps, keeps_more}
 use Rattle.sg_core.proofs.Later.{ahead_later}
 use Rattle.sg_turn.specs.Entries.{Begins}
-use Rattle.sg_broker.specs.Aside.{IsSeen, IsBeside, IsAside, HasKindOf, AreAhead, HoldsAhead, TellsHere, Comes, HasRoom}
-use Rattle.sg_broker.specs.declared.step.Step.{Step}
-use Rattle.sg_broker.specs.declared.step.Step.TheVariants.{Told, Turn}
+use Rattle.sg_broker.specs.Aside.{IsSeen, IsBeside, IsAside, HasKindOf, AreAhead, HoldsAhead}
 
 -- two legal parts are a legal run
 run_join : {I R D P : Type 0} (z : Setting D P) (r : RunOf D P) (log more : List (Entry I R D P)) → IsRunFrom z r log → IsRunFrom z (run_from r log) more → IsRunFrom z r (log ++ more)

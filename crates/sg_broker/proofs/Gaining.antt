@@ -1,5 +1,5 @@
 -- What the log gains in a turn.
-use Rattle.std.proofs.Common.{◌≡◌, ℕ, List, [], ◌∷◌, ◌++◌, ◌⊎◌, inl, inr, Bool, All, refl, sym, ap, ◌∙◌, subst, Result, Ok, Err, append_assoc, append-nil}
+use Rattle.std.proofs.Common.{◌≡◌, ℕ, List, [], ◌∷◌, ◌++◌, inl, inr, Bool, All, refl, sym, ap, ◌∙◌, Result, Ok, Err, append_assoc, append-nil}
 use Rattle.std.specs.Prelude.{IfOk, OnOk, OnErr}
 use Rattle.std.proofs.lemmas.List.Elements.{All-nil, All-cons, All-append}
 use Rattle.sg_query.specs.Query.{KindOf}
@@ -48,9 +48,9 @@ module _ {I R D P : Type 0} (wants : P → D → Bool) (same : D → D → Bool)
     empty = inl k;
   }
 
-  pub step_gains : {E : Type 0} (op : Op I R D P) (r : Result (Reply I D P) E) → IfOk r (Applies wants same (with_events core kept) new u op) → IfOk r (λ _. (left ≡ []) × (then ≡ Nothing)) → OnErr r (KeepsOn core new kept left ask then ⊎ HandsIn core new kept left then) → Gains core new u kept ask (told_by u op r) left then
+  pub step_gains : {E : Type 0} (op : Op I R D P) (r : Result (Reply I D P) E) → IfOk r (Applies wants same (with_events core kept) new u op) → IfOk r (λ _. (left ≡ []) × (then ≡ Nothing)) → OnErr r (KeepsOn core new kept left ask then) → Gains core new u kept ask (told_by u op r) left then
   step_gains op (Ok y) a n e = op_gained op y a n
-  step_gains op (Err x) a n e = elim e [ inl k ↦ none_gained [] refl k | inr k ↦ kept_gained [] refl k ]
+  step_gains op (Err x) a n e = none_gained [] refl e
 
   pub hand_gains : {E X : Type 0} (r : Result X E) → OnOk r (HandsIn core new kept left then) → OnErr r (KeepsOn core new kept left ask then) → Gains core new u kept ask [] left then
   hand_gains (Ok y) a e = kept_gained [] refl a

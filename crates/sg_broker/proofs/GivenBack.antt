@@ -1,5 +1,5 @@
 -- The lock's seat after a turn.
-use Rattle.std.proofs.Common.{◌≡◌, ℕ, ◌+◌, ◌<◌, List, [], ◌∷◌, ◌++◌, Bool, true, false, refl, sym, ap, ◌∙◌, length, length-append, append-nil, arith}
+use Rattle.std.proofs.Common.{◌≡◌, ◌<◌, List, [], ◌∷◌, ◌++◌, true, false, refl, sym, ap, ◌∙◌, length, length-append, append-nil, arith}
 use Rattle.sg_unit.specs.declared.entry.Entry.{Entry}
 use Rattle.sg_core.specs.Core.{CoreOf}
 use Rattle.sg_turn.specs.TurnSeat.{Known}

@@ -1,5 +1,5 @@
 -- A seat that answers an operation without a turn, or goes on to one.
-use Rattle.std.proofs.Common.{◌≡◌, ℕ, ◌+◌, ◌<◌, ◌^◌, List, [], ◌∷◌, ◌++◌, inl, inr, Bool, refl, sym, ap, ◌∙◌, subst, Option, Some, None, length, append_assoc}
+use Rattle.std.proofs.Common.{◌≡◌, ℕ, ◌+◌, ◌<◌, ◌^◌, List, [], ◌∷◌, ◌++◌, inr, Bool, sym, ap, ◌∙◌, subst, Option, Some, None, length, append_assoc}
 use Rattle.sg_unit.specs.declared.entry.Entry.{Entry}
 use Rattle.sg_unit.specs.declared.op.Op.{Op}
 use Rattle.sg_unit.specs.declared.reply.Reply.{Reply}

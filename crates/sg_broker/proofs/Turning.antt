@@ -1,8 +1,7 @@
 -- One turn of a seat: what is taken, what is given back, and what the seat is then.
-use Rattle.std.proofs.Common.{◌≡◌, ℕ, ◌<◌, ◌^◌, List, [], ◌∷◌, ◌++◌, ◌⊎◌, Bool, true, false, inl, inr, refl, sym, ap, ◌∙◌, subst, Option, Some, None, Result, Ok, Err, is_err, length, All, append_assoc, append-nil}
-use Rattle.std.specs.Prelude.{IfOk, OnErr, IfSome}
+use Rattle.std.proofs.Common.{◌≡◌, ℕ, ◌<◌, ◌^◌, List, [], ◌∷◌, ◌++◌, ◌⊎◌, Bool, true, false, inl, inr, refl, sym, ap, ◌∙◌, subst, Option, Some, None, Result, Ok, Err, is_err, length, All, append_assoc, append-nil, length-append, arith}
+use Rattle.std.specs.Prelude.{IfOk, OnErr}
 use Rattle.std.proofs.lemmas.List.Elements.{All-head, All-tail}
-use Rattle.std.specs.declared.alloc.AllocError.{AllocError}
 use Rattle.sg_query.specs.Query.{KindOf}
 use Rattle.sg_state.specs.Held.{HeldOf}
 use Rattle.sg_unit.specs.declared.entry.Entry.{Entry}
@@ -25,8 +24,8 @@ use Rattle.sg_turn.specs.Entries.{Begins}
 use Rattle.sg_turn.specs.Turn.{Lock}
 use Rattle.sg_turn.specs.TurnSeat.{Known}
 use Rattle.sg_broker.specs.Aside.{IsBeside, IsAside, HoldsAhead, FirstOf, Gains, told_by}
-use Rattle.sg_broker.specs.Broker.{SeatOf, IsAtLock, Logs, Adds, begun, root_of, IsTold, is_nothing, given_back}
-use Rattle.sg_broker.proofs.Behind.{begins_self, seen_more, free_behind, keeps_behind, own_behind, legal_behind, may_behind, ahead_behind}
+use Rattle.sg_broker.specs.Broker.{SeatOf, IsAtLock, Adds, Spends, begun, root_of, IsTold, is_nothing, given_back}
+use Rattle.sg_broker.proofs.Behind.{seen_more, free_behind, keeps_behind, own_behind, legal_behind, ahead_behind}
 
 -- what contracts see of a unit's seat, by the lock's seat and the events that are kept
 abbrev pub seat_view : {I R D P : Type 0} → Known (Entry I R D P) (CoreOf I R D P) → ℕ → List (Entry I R D P) → Bool → SeatOf I R D P
@@ -47,6 +46,10 @@ all_of_units : {I R D P : Type 0} (n : ℕ) (es : List (Entry I R D P)) → All 
 all_of_units n [] a = refl
 all_of_units n (e ∷ es) a =
     own_each n e es (All-head (λ e. e.unit ≡ n) e es a) (all_of_units n es (All-tail (λ e. e.unit ≡ n) e es a))
+
+nothing_more : {X : Type 0} (xs ys : List X) → xs ++ ys ≡ ys → xs ≡ []
+nothing_more [] ys e = refl
+nothing_more (x ∷ xs) ys e = absurd (omega (arith, ap length e, length-append xs ys))
 
 -- the lock's seat of a seat is one of the lock
 pub of_lock : {I R D P : Type 0} (l : Lock (CoreOf I R D P)) (s : SeatOf I R D P) (t : Known (Entry I R D P) (CoreOf I R D P)) (n : ℕ) (kept : List (Entry I R D P)) (spent : Bool) → seat_view t n kept spent ≡ s → IsTold t.root → IsAtLock l s → l.root ≡ begun l.root.opening l.root.kinds → (t.turn ≡ l.turn) × (t.root ≡ Some l.root)
@@ -339,9 +342,15 @@ module _ {I R D P : Type 0} (wants : P → D → Bool) (same : D → D → Bool)
         replies_by (Ok y) is none = replied op y is none
         replies_by (Err x) is none = tt
 
-        pub errs_by : (r : Result (Reply I D P) E) → told_now ≡ told_by n op r → spent' ≡ is_err r → OnErr r ((w.mine ++ left ≡ s.mine) × (spent' ≡ true))
-        errs_by (Ok y) is e = tt
-        errs_by (Err x) is e = (mine_again ∙ ap (λ (es : List (Entry I R D P)). s.mine ++ es) is ∙ append-nil s.mine, e)
+        pub errs_by : (r : Result (Reply I D P) E) → told_now ≡ told_by n op r → OnErr r (left ≡ kept) → spent' ≡ is_err r → OnErr r (Spends s (seat_view w n left spent'))
+        errs_by (Ok y) is stays e = tt
+        errs_by (Err x) is stays e =
+            let none : gains.more ≡ [] = nothing_more gains.more kept (ap (λ (es : List (Entry I R D P)). gains.more ++ es) (sym stays) ∙ gains.adds ∙ ap (λ (es : List (Entry I R D P)). kept ++ es) is ∙ append-nil kept) in
+            let seen : core.log ++ gains.more ≡ t.seen ++ begins.0 = ap (λ (es : List (Entry I R D P)). core.log ++ es) none ∙ append-nil core.log ∙ begins.1 in
+            let mine : (t.mine ++ gains.more) ++ left ≡ t.mine ++ kept = (λ i. (t.mine ++ none i) ++ stays i) ∙ ap (λ (es : List (Entry I R D P)). es ++ kept) (append-nil t.mine) in
+            subst (λ (v : SeatOf I R D P). Spends v (seat_view w n left spent')) view
+            (subst (λ (x : Known (Entry I R D P) (CoreOf I R D P)). Spends (seat_view t n kept spent) (seat_view x n left spent')) (sym after_is)
+            (begins.0, λ i. record { turn = t.turn; number = n; opening = (root_of t.root).opening; kinds = (root_of t.root).kinds; seen = seen i; kept = stays i; mine = mine i; spent = e i }))
 
       -- what was kept is handed in, or the seat is spent
       pub hands_by : {X E : Type 0} (r : Result X E) → IfOk r (λ _. left ≡ []) → told_now ≡ [] → (kept ≡ [] → ⊥) → (spent' : Bool) → spent' ≡ is_err r → is_nothing gains.more ≡ true → spent' ≡ true

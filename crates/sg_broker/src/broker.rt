@@ -1,5 +1,5 @@
-ghost use Rattle.std.specs.Prelude.{◌≡◌, ◌<◌, ◌≤◌, ℕ, [], false, true, length, IfOk, IsOk, OnErr, All};
-ghost use Rattle.sg_broker.specs.Broker.{IsAt, Adds, new_seats};
+ghost use Rattle.std.specs.Prelude.{◌≡◌, ◌<◌, ◌≤◌, ℕ, [], false, length, IfOk, IsOk, OnErr, All};
+ghost use Rattle.sg_broker.specs.Broker.{IsAt, Adds, Spends, new_seats};
 ghost use Rattle.sg_core.specs.Core.{IsCore, entry};
 ghost use Rattle.sg_unit.specs.Own.{MayBy, CanReply, own};
 ghost use Rattle.sg_unit.specs.Run.{run_of};
@@ -68,7 +68,7 @@ impl<I: Instance, R: Drop> Broker<I, R> {
     /// Applies one operation of the seat's unit. Once the seat has seen that nobody holds anything of the graph, an ask that is
     /// answered there, its advance and its take need no turn, and the seat keeps these events. Any other operation waits for the
     /// seat's turn, in which the events that the seat kept go into the log before its own, behind all that the seat had seen.
-    /// After want of memory the unit's events are as they were, and the seat is spent.
+    /// After want of memory nothing of the unit's was added to the log, the seat keeps what it kept, and it is spent.
     ///
     /// Costs what the operation costs (`Core::apply`), which others wait for, moving the events that were kept, and a turn
     /// (`Turn::lock`); without a turn a search and a place for its events. The core is changed where it is: only a pointer to
@@ -83,7 +83,7 @@ impl<I: Instance, R: Drop> Broker<I, R> {
         requires may { MayBy (setting_of I.wants I.same_datum seat.old.opening seat.old.kinds) seat.old.mine seat.old.number op }
         ensures ok { IfOk result (λ y. Adds (setting_of I.wants I.same_datum seat.old.opening seat.old.kinds) seat.old (entry seat.old.number op y) seat.new) }
         ensures reply { IfOk result (CanReply (run_of (setting_of I.wants I.same_datum seat.old.opening seat.old.kinds) seat.old.mine) seat.old.number op) }
-        ensures err { OnErr result ((seat.new.mine ≡ seat.old.mine) × (seat.new.spent ≡ true)) }
+        ensures err { OnErr result (Spends seat.old seat.new) }
         ensures seat { IsAt self.now seat.new × (seat.new.number ≡ seat.old.number) }
     {
         match keep(
@@ -100,7 +100,8 @@ impl<I: Instance, R: Drop> Broker<I, R> {
 
     /// The core, once all seats are back, with the events that they kept: a seat that keeps some has a last turn. Its log is a
     /// legal run from the opening, and the events of each unit are those of its seat. Takes no memory where no seat keeps an
-    /// event, as where each unit has ended or waits. Want of memory drops the core.
+    /// event, as where each unit has ended or waits. Want of memory drops the core, and so does a seat that is spent and keeps
+    /// events.
     ///
     /// Its cost grows with the number of units and of the events that were kept.
     pub fn close<Rt: Wait>(

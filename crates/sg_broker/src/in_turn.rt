@@ -1,8 +1,8 @@
 //! The turn of a seat.
 
-ghost use Rattle.std.specs.Prelude.{◌≡◌, [], true, false, IfOk, OnOk, OnErr, IsOk};
+ghost use Rattle.std.specs.Prelude.{◌≡◌, [], false, IfOk, OnOk, OnErr, IsOk};
 ghost use Rattle.sg_broker.specs.Aside.{HoldsAhead};
-ghost use Rattle.sg_broker.specs.Broker.{IsAtLock, Adds, begun};
+ghost use Rattle.sg_broker.specs.Broker.{IsAtLock, Adds, Spends, begun};
 ghost use Rattle.sg_core.specs.Core.{entry};
 ghost use Rattle.sg_unit.specs.Own.{MayBy, CanReply};
 ghost use Rattle.sg_unit.specs.Run.{run_of};
@@ -33,7 +33,7 @@ pub(crate) fn apply_in_turn<I: Instance, R: Drop, Rt: Wait>(
     requires ahead { HoldsAhead (setting_of I.wants I.same_datum seat.old.opening seat.old.kinds) seat.old.seen op ahead }
     ensures ok { IfOk result (λ y. Adds (setting_of I.wants I.same_datum seat.old.opening seat.old.kinds) seat.old (entry seat.old.number op y) seat.new) }
     ensures reply { IfOk result (CanReply (run_of (setting_of I.wants I.same_datum seat.old.opening seat.old.kinds) seat.old.mine) seat.old.number op) }
-    ensures err { OnErr result ((seat.new.mine ≡ seat.old.mine) × (seat.new.spent ≡ true)) }
+    ensures err { OnErr result (Spends seat.old seat.new) }
     ensures seat { IsAtLock turn.now seat.new × (seat.new.number ≡ seat.old.number) }
 {
     let CoreInTurn { mut core } = turn.lock(rt, &mut seat.seat);

@@ -53,6 +53,7 @@ pub(crate) fn step<I: Instance, R: Drop>(
     requires ahead { IsAheadOf I.wants I.same_datum core.old.kinds (run I.wants I.same_datum (with_events core.old aside.old.kept.events.items)).held op ahead }
     ensures gains { Gains core.old core.new unit aside.old.kept.events.items aside.old.kept.ask (told_by unit op result) aside.new.kept.events.items aside.new.kept.ask }
     ensures none { IfOk result (λ _. aside.new.kept.events.items ≡ []) }
+    ensures err { OnErr result (aside.new.kept.events.items ≡ aside.old.kept.events.items) }
     ensures core { IsCore I.wants I.same_datum core.new }
     ensures sight { FirstOf I.wants I.same_datum core.new aside.old.sight aside.new.sight }
     ensures count { aside.new.count ≡ length core.new.log }

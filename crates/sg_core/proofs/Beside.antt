@@ -6,7 +6,6 @@ use Rattle.std.proofs.lemmas.List.Elements.{All-nil, All-cons}
 use Rattle.sg_base.specs.Graph.{IsGraph, HasScope}
 use Rattle.sg_base.specs.State.{Follows}
 use Rattle.sg_base.proofs.Scopes.{number_itself}
-use Rattle.sg_query.specs.declared.answer.Answer.{Answer}
 use Rattle.sg_query.specs.declared.query.Query.{Query}
 use Rattle.sg_query.specs.Answer.{IsAnswer}
 use Rattle.sg_query.specs.Query.{KindOf, asked}
@@ -14,7 +13,6 @@ use Rattle.sg_query.specs.State.{IsSettled}
 use Rattle.sg_query.proofs.Settling.{settled_stay_settled}
 use Rattle.sg_state.specs.Held.{HeldOf, state_of}
 use Rattle.sg_unit.specs.declared.entry.Entry.{Entry}
-use Rattle.sg_unit.specs.declared.op.Op.{Op}
 use Rattle.sg_unit.specs.declared.op.Op.TheVariants.{Ask as AskOf, Advance, Take}
 use Rattle.sg_unit.specs.declared.reply.Reply.{Reply}
 use Rattle.sg_unit.specs.declared.reply.Reply.TheVariants.{Moved, Ready as ReadyNow, Answer as Answered}

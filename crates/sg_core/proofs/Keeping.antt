@@ -46,7 +46,7 @@ use Rattle.sg_core.specs.Kept.{IsKeptAsk, ask_at, AreWaits, AreAsks, AreEnds, Is
 
 -- ---- lists
 
-set_length : {X : Type 0} (xs : List X) (i : ℕ) (x : X) → length (slice_set xs i x) ≡ length xs
+pub set_length : {X : Type 0} (xs : List X) (i : ℕ) (x : X) → length (slice_set xs i x) ≡ length xs
 set_length [] i x = refl
 set_length (y ∷ xs) zero x = refl
 set_length (y ∷ xs) (suc i) x = ap suc (set_length xs i x)
@@ -56,7 +56,7 @@ index_set_here [] i x d l = absurd (omega arith)
 index_set_here (y ∷ xs) zero x d l = refl
 index_set_here (y ∷ xs) (suc i) x d l = index_set_here xs i x d (omega arith)
 
-index_set_other : {X : Type 0} (xs : List X) (i : ℕ) (x d : X) (j : ℕ) → (j ≡ i → ⊥) → slice_index_or (slice_set xs i x) j d ≡ slice_index_or xs j d
+pub index_set_other : {X : Type 0} (xs : List X) (i : ℕ) (x d : X) (j : ℕ) → (j ≡ i → ⊥) → slice_index_or (slice_set xs i x) j d ≡ slice_index_or xs j d
 index_set_other [] i x d j n = refl
 index_set_other (y ∷ xs) zero x d zero n = absurd (n refl)
 index_set_other (y ∷ xs) zero x d (suc j) n = refl
@@ -144,7 +144,7 @@ in_any (v ∷ vs) u c =
     or_true true b e = refl
     or_true false b e = e
 
-apart_from : (a b : ℕ) → eqb a b ≡ false → b ≡ a → ⊥
+pub apart_from : (a b : ℕ) → eqb a b ≡ false → b ≡ a → ⊥
 apart_from a b e i = absurd (let t = subst (λ (n : ℕ). eqb a n ≡ false) i e in let f = num_is a in let g = sym f ∙ t in cc)
 
 waiting_within : (ws : WaitsOf) (u : ℕ) → waits (status_at ws u) ≡ true → u < length ws

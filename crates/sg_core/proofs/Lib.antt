@@ -14,5 +14,6 @@ pub mod Moving
 pub mod Progressing
 pub mod Standing
 pub mod Steps
+pub mod TakingBack
 pub mod Telling
 pub mod Unheld

@@ -34,6 +34,14 @@ impl<I: Instance, R: Drop> Kept<I, R> {
         matches!(&self.ask, FoundAsk::Nothing)
     }
 
+    /// Lets the unit ask this by these events.
+    pub(crate) fn set_ask(&mut self, ask: FoundAsk<I::Datum>)
+        ensures ask { self.new.ask ≡ ask }
+        ensures events { self.new.events ≡ self.old.events }
+    {
+        self.ask = ask;
+    }
+
     /// Keeps the ask of a query whose answer was found. Gives both back, and keeps nothing, where memory is wanting.
     pub fn keep_ask(
         &mut self,

@@ -33,6 +33,7 @@ mod searching;
 mod shared_kinds;
 mod showing;
 mod sight;
+mod taking_back;
 mod watch;
 mod woken;
 mod writing;

@@ -1,4 +1,4 @@
-use Rattle.std.proofs.Common.{◌≡◌, ◌++◌, inl, sym, ap, ◌∙◌, length, append-nil, arith}
+use Rattle.std.proofs.Common.{◌≡◌, ◌++◌, inl, ap, ◌∙◌, length, append-nil, arith}
 use Rattle.sg_broker.proofs.GivenBack.{nothing_more, some_more, gave_nothing, gave_more}
 use Rattle.sg_broker.proofs.giving.give.Goals as goal
 

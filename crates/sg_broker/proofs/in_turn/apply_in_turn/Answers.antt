@@ -1,4 +1,4 @@
-use Rattle.std.proofs.Common.{◌≡◌, [], refl, sym, ap, ◌∙◌, subst, length, append-nil}
+use Rattle.std.proofs.Common.{refl, sym, ap, ◌∙◌, length}
 use Rattle.sg_broker.specs.Aside.{told_by}
 use Rattle.sg_broker.proofs.Turning.{of_lock, taken_as, free, keeps, may_there, ahead_there, own_lock, inside_lock, root_stays, before_is, more_there, seat_again, at_again, spends_by, adds_by, replies_by, errs_by}
 use Rattle.sg_broker.proofs.in_turn.apply_in_turn.Goals as goal
@@ -97,7 +97,7 @@ returns-clause-err g c =
     let i = c.seat.inside in
     let k = i.aside.kept in
     let x = taken_as g.I.Instance.wants g.I.Instance.same_datum c.args.turn.now i.seat c.lock-core.new.seat c.lock-core.result.core.value c.deref.result.now c.deref_mut.result.now c.deref.ensures c.deref_mut.ensures.value c.lock-core.ensures.root c.lock-core.ensures.begins c.lock-core.ensures.own c.log-before.ensures.core c.lock-core.ensures.seat in
-    errs_by g.I.Instance.wants g.I.Instance.same_datum c.args.turn.now c.args.seat.now i.seat i.number i.aside.sight i.aside.count k.events.items k.ask i.spent c.seat.view_is c.seat.invariant c.requires.own.0 c.deref_mut.result.now x.0 x.1 x.2 x.3 c.step-reply.new.core (told_by i.number c.args.op c.step-reply.result) c.step-reply.new.aside.kept.events.items c.step-reply.new.aside.kept.ask c.step-reply.ensures.gains c.step-reply.ensures.core c.lock-core.new.seat x.4 c.give.new.seat c.give.ensures c.args.op (ap (λ s. s.spent) c.seat.view_is ∙ c.requires.own.1) c.is_err-seat-inside.result c.step-reply.result refl c.is_err-seat-inside.ensures.value
+    errs_by g.I.Instance.wants g.I.Instance.same_datum c.args.turn.now c.args.seat.now i.seat i.number i.aside.sight i.aside.count k.events.items k.ask i.spent c.seat.view_is c.seat.invariant c.requires.own.0 c.deref_mut.result.now x.0 x.1 x.2 x.3 c.step-reply.new.core (told_by i.number c.args.op c.step-reply.result) c.step-reply.new.aside.kept.events.items c.step-reply.new.aside.kept.ask c.step-reply.ensures.gains c.step-reply.ensures.core c.lock-core.new.seat x.4 c.give.new.seat c.give.ensures c.args.op (ap (λ s. s.spent) c.seat.view_is ∙ c.requires.own.1) c.is_err-seat-inside.result c.step-reply.result refl c.step-reply.ensures.err c.is_err-seat-inside.ensures.value
 
 pub returns-clause-seat : goal.returns-clause-seat
 returns-clause-seat g c =

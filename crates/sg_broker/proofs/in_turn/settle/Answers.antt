@@ -1,5 +1,4 @@
-use Rattle.std.proofs.Common.{◌≡◌, [], refl, sym, ap, ◌∙◌, subst, length, vec_len, append-nil}
-use Rattle.sg_broker.specs.Aside.{told_by}
+use Rattle.std.proofs.Common.{[], refl, sym, ap, ◌∙◌, length, vec_len, append-nil}
 use Rattle.sg_core.proofs.Beside.{is_some}
 use Rattle.sg_broker.proofs.Turning.{of_lock, taken_as, free, keeps, own_lock, inside_lock, root_stays, before_is, more_there, seat_again, at_again, mine_again, hands_by}
 use Rattle.sg_broker.proofs.in_turn.settle.Goals as goal

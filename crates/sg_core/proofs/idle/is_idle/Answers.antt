@@ -1,4 +1,4 @@
-use Rattle.std.proofs.Common.{◌≡◌, ap, ◌∙◌}
+use Rattle.std.proofs.Common.{ap, ◌∙◌}
 use Rattle.sg_base.specs.Graph.{GraphOf}
 use Rattle.sg_core.proofs.Unheld.{idle_from}
 use Rattle.sg_core.proofs.idle.is_idle.Goals as goal

@@ -1,4 +1,4 @@
-use Rattle.std.proofs.Common.{◌≡◌, ℕ, arith}
+use Rattle.std.proofs.Common.{arith}
 use Rattle.sg_base.specs.State.{IsUnset}
 use Rattle.sg_state.specs.Held.{HoldsRow, state_of}
 use Rattle.sg_state.proofs.Extending.{unset_to}
