@@ -1,4 +1,4 @@
--- What is checked of one body, or of one initializer, by the declaration of its type.
+-- What is checked of one body, of one initializer or of one signature, by the declaration of its type.
 use Rattle.std.specs.Prelude.{ℕ, cond, List, [], ◌∷◌, map}
 use Rattle.std.specs.List.{filter}
 use Rattle.sg_base.specs.declared.scope.Scope.{Scope}
@@ -8,13 +8,15 @@ use Rattle.jv_diag.specs.Plain.{DiagOf}
 use Rattle.jv_expr.specs.Bodies.{ctor_rule, field_rule, method_rule}
 use Rattle.jv_layout.specs.Folder.{LayoutOf}
 use Rattle.jv_layout.specs.Readers.{members_of}
+use Rattle.jv_member.specs.declared.signature.Signature.{Signature}
 use Rattle.jv_member.specs.Members.{Placed, placed}
 use Rattle.jv_member.specs.Own.{OwnMember, own_field, own_method, own_ctor, default_ctor, no_own, own_members}
+use Rattle.jv_member.specs.Signatures.{signature_rule}
 use Rattle.jv_names.specs.Replies.{Rule}
 use Rattle.jv_tree.specs.declared.name.Ident.{Ident}
 use Rattle.jv_tree.specs.DeclTree.{TypeDeclTree}
 use Rattle.jv_unit.specs.MemberBodies.{is_blank}
-use Rattle.jv_unit.specs.Trees.{extends_of}
+use Rattle.jv_unit.specs.Trees.{extends_of, name_of}
 
 -- ---- the members of a declaration
 
@@ -56,3 +58,7 @@ declared_body l names c d m = body_of l names c (extends_of d) (blanks_among l (
 -- the diagnostics of the initializer of the member with this scope, of a type with this declaration
 abbrev pub declared_init : LayoutOf → List (List ℕ) → Scope → TypeDeclTree → Scope → Rule (List DiagOf)
 declared_init l names c d m = init_of l names c (extends_of d) m (member_with m (placed_members l c d))
+
+-- the signature of the member with this scope, of a type with this declaration, with what is wrong with the types in it
+abbrev pub declared_signature : LayoutOf → List (List ℕ) → Scope → TypeDeclTree → Scope → Rule Signature
+declared_signature l names c d m = signature_rule l names c (name_of d).id (member_with m (placed_members l c d))

@@ -7,7 +7,7 @@
 //! repeats at most the check that asks for it. All units of a folder share its layout, names and trees (`Folder`). `java_units`
 //! makes them: each follows the script of its number (`JavaScript`), so it asks what its rules ask and gives what they give, and
 //! no unit is written by hand. The bodies and the initializers of members can be checked by the declaration of their type alone too
-//! (`check_body`, `check_init`, `specs/DeclaredBodies.antt`), by the same rules.
+//! (`check_body`, `check_init`, `specs/DeclaredBodies.antt`), by the same rules, and so can their signatures (`check_signature`).
 #![tactic(auto)]
 
 mod begun_checks;
@@ -19,6 +19,7 @@ mod decl_paths;
 mod declared_body;
 mod declared_init;
 mod declared_members;
+mod declared_signature;
 mod file_rules;
 mod folder;
 mod head_rules;
@@ -33,6 +34,7 @@ mod units;
 
 pub use declared_body::check_body;
 pub use declared_init::check_init;
+pub use declared_signature::check_signature;
 pub use folder::Folder;
 pub use java_script::JavaScript;
 pub use units::{JavaUnit, java_units};

@@ -1,4 +1,4 @@
-//! What is checked of one body and of one initializer, in a class whose queries are answered by hand: each member has a signature with a
+//! What is checked of one body, of one initializer and of one signature, in a class whose queries are answered by hand: each member has a signature with a
 //! parameter and a result of type `int`, and each field that is asked for is the first member of the class.
 
 use jv_diag::{Diag, DiagList};
@@ -8,7 +8,7 @@ use jv_lex::lex;
 use jv_names::{Oracle, kinds};
 use jv_parse::parse;
 use jv_tree::{NameId, Names, TypeDecl, Unit};
-use jv_unit::{check_body, check_init};
+use jv_unit::{check_body, check_init, check_signature};
 use sg_base::{Label, Scope, Step};
 use sg_query::{Answer, FoundPaths, FoundTree, Query};
 use sg_reading::Known;
@@ -284,6 +284,56 @@ const CASES: [(&str, usize, Part, &str); 9] = [
 fn members_are_checked_by_their_declaration(rt: HostRuntime) -> Result<(), Fail> {
     for (source, number, part, wanted) in CASES {
         assert!(rt; is_checked(rt.alloc(), source, number, part, wanted)?);
+    }
+    Ok(())
+}
+
+impl Place<'_> {
+    /// The number of the parameters of the member's signature, without a reply; none where one is missing, or something is wrong.
+    fn params(&self) -> Result<Option<usize>, AllocError> {
+        let oracle = Oracle::new(self.alloc);
+        let found = check_signature(
+            self.alloc,
+            self.layout,
+            self.names,
+            &oracle,
+            self.decl,
+            self.ty,
+            self.member,
+        )?;
+        let Known::Is(signature) = found else {
+            return Ok(None);
+        };
+        match &signature.datum {
+            JavaDatum::Signature { params, .. } if signature.diags.as_slice().is_empty() => {
+                Ok(Some(params.as_slice().len()))
+            }
+            _ => Ok(None),
+        }
+    }
+}
+
+/// The number of the parameters of a member of the first class.
+fn params_in(alloc: Global, number: usize) -> Result<Option<usize>, Fail> {
+    let mut names = Names::new(alloc);
+    let units = trees(alloc, BLANK, &mut names)?;
+    let layout = laid_out(alloc, &names, &units)?;
+    let ty = scope_at(layout.types(), CLASS)?;
+    let place = Place {
+        alloc,
+        names: &names,
+        layout: &layout,
+        decl: first_decl(&units)?,
+        ty,
+        member: scope_at(layout.members(ty), number)?,
+    };
+    Ok(place.params()?)
+}
+
+#[test]
+fn members_have_signatures_by_their_declaration(rt: HostRuntime) -> Result<(), Fail> {
+    for (number, wanted) in [(1, 0), (2, 1), (3, 0)] {
+        assert!(rt; params_in(rt.alloc(), number)? == Some(wanted));
     }
     Ok(())
 }
