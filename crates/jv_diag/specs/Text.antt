@@ -64,8 +64,8 @@ texts =
     codes "$ cannot be cast to $" ∷
     codes "$ is final" ∷
     codes "no enclosing instance for $" ∷
-    codes "" ∷
-    codes "" ∷
+    codes "defaults of $ meet" ∷
+    codes "$ is a static method of an interface" ∷
     codes "unreachable statement" ∷
     codes "missing return in $" ∷ []
 

@@ -37,7 +37,7 @@ fn last_lines(rt: HostRuntime) -> Result<(), Fail> {
 }
 
 /// The text of each code.
-const TEXTS: [(u8, &str); 50] = [
+const TEXTS: [(u8, &str); 52] = [
     (1, "not UTF-8"),
     (2, "syntax error"),
     (3, "bad literal"),
@@ -86,6 +86,8 @@ const TEXTS: [(u8, &str); 50] = [
     (55, "$ cannot be cast to $"),
     (56, "$ is final"),
     (57, "no enclosing instance for $"),
+    (58, "defaults of $ meet"),
+    (59, "$ is a static method of an interface"),
     (60, "unreachable statement"),
     (61, "missing return in $"),
 ];

@@ -64,8 +64,8 @@ const TEXTS: [&str; 62] = [
     "$ cannot be cast to $",
     "$ is final",
     "no enclosing instance for $",
-    "",
-    "",
+    "defaults of $ meet",
+    "$ is a static method of an interface",
     "unreachable statement",
     "missing return in $",
 ];
