@@ -4,6 +4,7 @@
 //! caller names a code and the arguments, and the file and the place that it speaks of.
 #![tactic(auto)]
 
+pub mod codes;
 mod diagnostic;
 mod fill;
 mod last;
