@@ -37,11 +37,20 @@ modifiers_of ws = record {
   is_static = is_written 37 ws;
   is_abstract = is_written 0 ws;
   is_final = is_written 17 ws;
+  is_default = is_written 11 ws;
 }
 
 -- no modifier
 abbrev pub no_modifiers : Modifiers
-no_modifiers = record { is_public = false; is_protected = false; is_private = false; is_static = false; is_abstract = false; is_final = false }
+no_modifiers = record {
+  is_public = false;
+  is_protected = false;
+  is_private = false;
+  is_static = false;
+  is_abstract = false;
+  is_final = false;
+  is_default = false;
+}
 
 -- ---- packages (JLS 7.1, 7.4)
 

@@ -1,5 +1,5 @@
 -- What a layout says of its scopes (JLS 6.6, 8.1.1, 8.1.3, 8.5, 9.1.1, 9.3, 9.4).
-use Rattle.std.specs.Prelude.{ℕ, ◌==◌, Bool, true, false, ◌||◌, ◌&&◌, cond, List, [], length, map, Option, None, Some}
+use Rattle.std.specs.Prelude.{ℕ, ◌==◌, Bool, true, false, ◌||◌, ◌&&◌, not, cond, List, [], length, map, Option, None, Some}
 use Rattle.std.specs.List.{filter, range_with_len, slice_index_or}
 use Rattle.std.specs.Option.{option_map}
 use Rattle.sg_base.specs.declared.scope.Scope.{Scope}
@@ -136,10 +136,27 @@ is_final_at l (Signature m) = false
 abbrev pub is_final_of : LayoutOf → Scope → Bool
 is_final_of l s = is_final_at l (place_of l s)
 
--- whether this is a type or a member that is abstract: where that is written; methods of interfaces are
+-- whether this is a method of an interface
+abbrev pub is_interface_method_at : LayoutOf → Place → Bool
+is_interface_method_at l (Member m) = is_method (member_at l m).kind && (owner_of l m).interface
+is_interface_method_at l (Ty t) = false
+is_interface_method_at l Outside = false
+is_interface_method_at l Root = false
+is_interface_method_at l Unnamed = false
+is_interface_method_at l (Package p) = false
+is_interface_method_at l (File f) = false
+is_interface_method_at l (Signature m) = false
+
+-- whether a scope is a method of an interface
+abbrev pub is_interface_method_of : LayoutOf → Scope → Bool
+is_interface_method_of l s = is_interface_method_at l (place_of l s)
+
+-- whether this is a type or a member that is abstract: where that is written; a method of an interface is where neither `static` nor `default` is written
 abbrev pub is_abstract_at : LayoutOf → Place → Bool
 is_abstract_at l (Ty t) = (type_at l t).modifiers.is_abstract
-is_abstract_at l (Member m) = (member_at l m).modifiers.is_abstract || (is_method (member_at l m).kind && (owner_of l m).interface)
+is_abstract_at l (Member m) =
+    cond (is_method (member_at l m).kind && (owner_of l m).interface)
+    (not ((member_at l m).modifiers.is_static || (member_at l m).modifiers.is_default)) (member_at l m).modifiers.is_abstract
 is_abstract_at l Outside = false
 is_abstract_at l Root = false
 is_abstract_at l Unnamed = false
@@ -147,9 +164,25 @@ is_abstract_at l (Package p) = false
 is_abstract_at l (File f) = false
 is_abstract_at l (Signature m) = false
 
--- whether a type or a member is abstract: where that is written; methods of interfaces are
+-- whether a type or a member is abstract: where that is written; a method of an interface is where neither `static` nor `default` is written
 abbrev pub is_abstract_of : LayoutOf → Scope → Bool
 is_abstract_of l s = is_abstract_at l (place_of l s)
+
+-- whether this is a default method: a method of an interface where `default` and not `static` is written
+abbrev pub is_default_at : LayoutOf → Place → Bool
+is_default_at l (Member m) =
+    (is_method (member_at l m).kind && (owner_of l m).interface) && ((member_at l m).modifiers.is_default && not (member_at l m).modifiers.is_static)
+is_default_at l (Ty t) = false
+is_default_at l Outside = false
+is_default_at l Root = false
+is_default_at l Unnamed = false
+is_default_at l (Package p) = false
+is_default_at l (File f) = false
+is_default_at l (Signature m) = false
+
+-- whether a scope is a default method
+abbrev pub is_default_of : LayoutOf → Scope → Bool
+is_default_of l s = is_default_at l (place_of l s)
 
 -- whether this is a type that is an interface
 abbrev pub is_interface_place : LayoutOf → Place → Bool

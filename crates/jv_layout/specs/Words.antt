@@ -1,4 +1,4 @@
--- The words of modifiers at a declaration, by the numbers of their keywords: abstract 0, final 17, private 32, protected 33, public 34, static 37.
+-- The words of modifiers at a declaration, by the numbers of their keywords: abstract 0, default 11, final 17, private 32, protected 33, public 34, static 37.
 use Rattle.std.specs.Prelude.{ℕ, ◌&&◌, ◌||◌, not, Bool, false, List, [], ◌∷◌}
 use Rattle.std.specs.List.{list_any}
 use Rattle.jv_layout.specs.Folder.{is_written}

@@ -1,7 +1,7 @@
 //! What a layout says of its scopes.
 
-ghost use Rattle.std.specs.Prelude.{◌≡◌, ◌<◌, ◌^◌, length, map, option_map};
-ghost use Rattle.jv_layout.specs.Readers.{type_at, owner_of, file_package, is_interface_at, lies_in_interface, written_access, type_access, member_at, member_access_by, access_of, is_static_type, is_static_of, is_final_of, is_abstract_of, is_interface_of, file_of, owner_scope, package_of, top_of, signature_scope, members_of, members_of_type, types_of, object_scope, string_scope};
+ghost use Rattle.std.specs.Prelude.{◌≡◌, ◌<◌, ◌^◌, ◌&&◌, length, map, option_map};
+ghost use Rattle.jv_layout.specs.Readers.{type_at, owner_of, file_package, is_interface_at, lies_in_interface, written_access, type_access, member_at, member_access_by, access_of, is_method, is_static_type, is_static_of, is_final_of, is_interface_method_of, is_abstract_of, is_default_of, is_interface_of, file_of, owner_scope, package_of, top_of, signature_scope, members_of, members_of_type, types_of, object_scope, string_scope};
 ghost use Rattle.jv_layout.specs.Duplicates.{simple_name, is_named};
 ghost use Rattle.jv_layout.specs.Scopes.{root_scope, file_scope, type_scope, member_scope, scope_count};
 
@@ -169,16 +169,51 @@ impl Layout {
         }
     }
 
-    /// Whether a type or a member is abstract (JLS 8.1.1.1, 8.4.3.1, 9.4).
+    /// Whether a member is a method of an interface.
+    fn is_method_of_interface(&self, m: u32) -> bool
+        ensures { result ≡ (is_method (member_at self.now m).kind && (owner_of self.now m).interface) }
+    {
+        matches!(self.member_row(m).kind, MemberKind::Method) && self.owner_row(m).interface
+    }
+
+    /// Whether a scope is a method of an interface (JLS 9.4). It takes constant time.
+    pub fn is_interface_method(&self, s: Scope) -> bool
+        ensures { result ≡ is_interface_method_of self.now s }
+    {
+        match self.place(s) {
+            Place::Member(m) => self.is_method_of_interface(m),
+            _ => false,
+        }
+    }
+
+    /// Whether a type or a member is abstract (JLS 8.1.1.1, 8.4.3.1, 9.4, 9.4.3): a method of an interface is where neither
+    /// `static` nor `default` is written, and all else is where `abstract` is. It takes constant time.
     pub fn is_abstract(&self, s: Scope) -> bool
         ensures { result ≡ is_abstract_of self.now s }
     {
         match self.place(s) {
             Place::Ty(t) => self.type_row(t).modifiers.is_abstract,
             Place::Member(m) => {
-                let row = self.member_row(m);
-                row.modifiers.is_abstract
-                    || matches!(row.kind, MemberKind::Method) && self.owner_row(m).interface
+                let modifiers = self.member_row(m).modifiers;
+                if self.is_method_of_interface(m) {
+                    !(modifiers.is_static || modifiers.is_default)
+                } else {
+                    modifiers.is_abstract
+                }
+            }
+            _ => false,
+        }
+    }
+
+    /// Whether a scope is a default method: a method of an interface where `default` and not `static` is written (JLS 9.4,
+    /// 9.4.3). It takes constant time.
+    pub fn is_default(&self, s: Scope) -> bool
+        ensures { result ≡ is_default_of self.now s }
+    {
+        match self.place(s) {
+            Place::Member(m) => {
+                let modifiers = self.member_row(m).modifiers;
+                self.is_method_of_interface(m) && (modifiers.is_default && !modifiers.is_static)
             }
             _ => false,
         }

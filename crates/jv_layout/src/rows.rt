@@ -3,10 +3,10 @@
 ghost use Rattle.std.specs.Prelude.{◌≡◌};
 ghost use Rattle.jv_layout.specs.Folder.{modifiers_of, no_modifiers};
 
-use crate::words::{ABSTRACT, FINAL, PRIVATE, PROTECTED, PUBLIC, STATIC, is_written};
+use crate::words::{ABSTRACT, DEFAULT, FINAL, PRIVATE, PROTECTED, PUBLIC, STATIC, is_written};
 use jv_tree::{Mods, NameId};
 
-/// Which modifiers are written at a declaration (JLS 8.1.1, 8.3.1, 8.4.3).
+/// Which modifiers are written at a declaration (JLS 8.1.1, 8.3.1, 8.4.3, 9.4).
 #[derive(Clone, Copy, Debug, PartialEq, Eq)]
 pub struct Modifiers {
     pub is_public: bool,
@@ -15,6 +15,7 @@ pub struct Modifiers {
     pub is_static: bool,
     pub is_abstract: bool,
     pub is_final: bool,
+    pub is_default: bool,
 }
 
 impl Modifiers {
@@ -29,6 +30,7 @@ impl Modifiers {
             is_static: false,
             is_abstract: false,
             is_final: false,
+            is_default: false,
         }
     }
 
@@ -43,6 +45,7 @@ impl Modifiers {
             is_static: is_written(STATIC, &mods.words),
             is_abstract: is_written(ABSTRACT, &mods.words),
             is_final: is_written(FINAL, &mods.words),
+            is_default: is_written(DEFAULT, &mods.words),
         }
     }
 }

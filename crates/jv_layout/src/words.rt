@@ -1,4 +1,4 @@
-//! The words of modifiers at a declaration, by the numbers of their keywords (JLS 8.1.1, 8.3.1, 8.4.3, 8.8.3).
+//! The words of modifiers at a declaration, by the numbers of their keywords (JLS 8.1.1, 8.3.1, 8.4.3, 8.8.3, 9.4).
 
 ghost use Rattle.std.specs.Prelude.{◌≡◌};
 ghost use Rattle.jv_layout.specs.Folder.{is_written};
@@ -6,6 +6,9 @@ ghost use Rattle.jv_layout.specs.Words.{has_repeat, has_two_accesses, has_other}
 
 /// The number of `abstract`.
 pub const ABSTRACT: u8 = 0;
+
+/// The number of `default`.
+pub const DEFAULT: u8 = 11;
 
 /// The number of `final`.
 pub const FINAL: u8 = 17;
