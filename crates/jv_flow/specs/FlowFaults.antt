@@ -1,6 +1,7 @@
 -- What is wrong with the flow of control through the body of a method or a constructor: unreachable statements, and a result that is not returned
 -- (JLS 8.4.7, 14.21).
 use Rattle.std.specs.Prelude.{◌≡◌, ◌⊎◌, ◌&&◌, ℕ, Bool, true, false, List, [], ◌∷◌, ◌++◌, Option, Some, None, map, slice_index_or}
+use Rattle.jv_diag.specs.declared.codes.TheConstants.{MISSING_RETURN, UNREACHABLE}
 use Rattle.jv_diag.specs.Plain.{DiagOf, diagnostic, fault_if}
 use Rattle.jv_tree.specs.declared.name.Ident.{Ident}
 use Rattle.jv_tree.specs.TypeTree.{BaseTree, void}
@@ -12,11 +13,11 @@ use Rattle.jv_flow.specs.Reachable.{CompletesNormally, IsReachable, all_complete
 
 -- E60 where a statement of a file starts
 abbrev pub unreachable_at : ℕ → ℕ → DiagOf
-unreachable_at file at = diagnostic file at 60 []
+unreachable_at file at = diagnostic file at UNREACHABLE []
 
 -- E61 at the name of a method
 abbrev pub missing_return_in : List (List ℕ) → ℕ → Ident → DiagOf
-missing_return_in names file i = diagnostic file i.at 61 (slice_index_or names i.id.0 [] ∷ [])
+missing_return_in names file i = diagnostic file i.at MISSING_RETURN (slice_index_or names i.id.0 [] ∷ [])
 
 -- a method whose result has this type, without its brackets, gives a value: each but `void` (JLS 8.4.5)
 abbrev pub gives_value : BaseTree → Bool

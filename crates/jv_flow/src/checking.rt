@@ -7,9 +7,8 @@ ghost use Rattle.jv_tree.specs.DeclTree.{ctor_tree, member_tree, method_tree};
 ghost use Rattle.jv_flow.specs.FlowFaults.{ctor_flow, declared_flow, flow_faults, gives_value, method_flow, unreachable_at, unreachable_in};
 ghost use Rattle.jv_flow.specs.Reachable.{all_complete};
 
-use crate::codes::{MISSING_RETURN, UNREACHABLE_STATEMENT};
 use crate::flowing::flow;
-use jv_diag::DiagList;
+use jv_diag::{DiagList, codes};
 use jv_tree::{Base, Ctor, Ident, Member, Method, NameId, Names, Stmt};
 use std::alloc::{AllocError, Global};
 
@@ -44,7 +43,7 @@ fn add_unreachable(
     ensures { OnOk result (diags.new ≡ diags.old ++ map (unreachable_at file) places.now) }
 {
     for at in places {
-        diags.add(alloc, file, *at, UNREACHABLE_STATEMENT, &[])?;
+        diags.add(alloc, file, *at, codes::UNREACHABLE, &[])?;
     }
     Ok(())
 }
@@ -78,7 +77,7 @@ fn check_body(
             alloc,
             file,
             name.at,
-            MISSING_RETURN,
+            codes::MISSING_RETURN,
             &[text_of(names, name.id)],
         )?;
     }

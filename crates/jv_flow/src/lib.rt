@@ -6,7 +6,6 @@
 #![tactic(auto)]
 
 mod checking;
-mod codes;
 mod condition;
 mod ends;
 mod flowing;
