@@ -1,5 +1,6 @@
 //! A small folder by its trees.
 
+use jv_layout::words::{ABSTRACT, DEFAULT, STATIC};
 use jv_tree::nodes::{
     class_or_interface, constructor, constructor_member, field_member, method, method_member,
     nested, type_ref, unit, variable,
@@ -65,10 +66,21 @@ fn field_of(alloc: Global, number: u32) -> Result<Member, Fail> {
     Ok(field_member(mods(alloc, &[])?, type_ref(0, Base::Int, 0), variables))
 }
 
-fn method_of(alloc: Global, number: u32) -> Result<Member, Fail> {
+/// A method with these modifiers.
+fn method_with(alloc: Global, words: &[u8], number: u32) -> Result<Member, Fail> {
     let ty = type_ref(0, Base::Int, 0);
-    let of = method(mods(alloc, &[])?, ty, ident(number), vec![in alloc]?, None);
+    let of = method(
+        mods(alloc, words)?,
+        ty,
+        ident(number),
+        vec![in alloc]?,
+        None,
+    );
     Ok(method_member(of))
+}
+
+fn method_of(alloc: Global, number: u32) -> Result<Member, Fail> {
+    method_with(alloc, &[], number)
 }
 
 fn constructor_of(alloc: Global, number: u32) -> Result<Member, Fail> {
@@ -196,6 +208,37 @@ pub fn files_of_packages(alloc: Global) -> Result<Vec<Unit>, Fail> {
         files.push(file_in(alloc, package, Vec::new(alloc))?)?;
     }
     Ok(files)
+}
+
+/// The modifiers of the methods of an interface.
+const OF_INTERFACE: [&[u8]; 6] = [
+    &[],
+    &[STATIC],
+    &[DEFAULT],
+    &[ABSTRACT],
+    &[STATIC, DEFAULT],
+    &[ABSTRACT, DEFAULT],
+];
+
+/// The modifiers of the methods of a class.
+const OF_CLASS: [&[u8]; 3] = [&[], &[ABSTRACT], &[STATIC]];
+
+/// Methods `m` with these modifiers.
+fn methods_with(alloc: Global, words: &[&[u8]]) -> Result<Vec<Member>, Fail> {
+    let mut methods = Vec::new(alloc);
+    for of_one in words {
+        methods.push(method_with(alloc, *of_one, M)?)?;
+    }
+    Ok(methods)
+}
+
+/// One file of `p` with an interface `I` and a class `A`, whose methods have no modifier, `static`, `default`, `abstract`,
+/// `static default` and `abstract default`, and in the class no modifier, `abstract` and `static`.
+pub fn files_of_methods(alloc: Global) -> Result<Vec<Unit>, Fail> {
+    let mut types = Vec::new(alloc);
+    types.push(type_of(alloc, I, true, methods_with(alloc, &OF_INTERFACE)?)?)?;
+    types.push(type_of(alloc, A, false, methods_with(alloc, &OF_CLASS)?)?)?;
+    Ok(vec![in alloc; file_in(alloc, &[P], types)?]?)
 }
 
 /// The scope with a serial.

@@ -4,7 +4,9 @@
 //! types 9 `Object`, 10 `String`, 11 `A`, 12 `A.B`, 13 `A` again, 14 `I` and 15 `I.B`, twelve members from 16 on, and
 //! their signatures from 28 on.
 
-use crate::small_folder::{files_of_packages, scope_at, small_files, small_names};
+use crate::small_folder::{
+    files_of_methods, files_of_packages, scope_at, small_files, small_names,
+};
 use jv_instance::{JavaDatum, Ty, TypeBase, labels};
 use jv_layout::{Declarations, Layout, LayoutFault, Place, is_folder, layout};
 use jv_tree::{NameId, Names, Unit};
@@ -479,5 +481,55 @@ fn packages_have_edges_in_their_order(rt: HostRuntime) -> Result<(), Fail> {
             "8-7 9-4 10-5 11-2 12-3 13-7 "
         )?
     );
+    Ok(())
+}
+
+fn methods_layout(alloc: Global) -> Result<Layout, Fail> {
+    layout_of(alloc, files_of_methods(alloc)?)
+}
+
+/// What a member is: `a` where it is abstract, `s` where it is static, `d` where it is a default method, `i` where it is a
+/// method of an interface, and a bar at the end.
+fn put_letters(layout: &Layout, member: Scope, text: &mut String) -> Result<(), Fail> {
+    let letters = [
+        (layout.is_abstract(member), 'a'),
+        (layout.is_static(member), 's'),
+        (layout.is_default(member), 'd'),
+        (layout.is_interface_method(member), 'i'),
+        (true, '|'),
+    ];
+    for (holds, letter) in letters {
+        if holds {
+            text.push(letter)?;
+        }
+    }
+    Ok(())
+}
+
+fn put_letters_of(layout: &Layout, ty: Scope, text: &mut String) -> Result<(), Fail> {
+    for member in layout.members(ty) {
+        put_letters(layout, *member, text)?;
+    }
+    Ok(())
+}
+
+/// What the members of all types are.
+fn letters_told(alloc: Global) -> Result<String, Fail> {
+    let layout = methods_layout(alloc)?;
+    let mut text = String::new(alloc);
+    for ty in layout.types() {
+        put_letters_of(&layout, *ty, &mut text)?;
+    }
+    Ok(text)
+}
+
+/// A method of an interface is abstract where neither `static` nor `default` is written, and a default method where `default`
+/// and not `static` is (JLS 9.4). The first member of the class is its constructor.
+const METHOD_LETTERS: &str = "ai|si|di|ai|si|di|||a|s|";
+
+#[test]
+fn methods_of_interfaces_are_default_static_or_abstract(rt: HostRuntime) -> Result<(), Fail> {
+    let letters = letters_told(rt.alloc())?;
+    assert_eq!(rt; letters.as_str(), METHOD_LETTERS);
     Ok(())
 }
