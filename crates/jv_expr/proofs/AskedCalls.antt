@@ -5,6 +5,7 @@ use Rattle.std.proofs.lemmas.List.Elements.{All-nil, All-head, All-tail, All-wea
 use Rattle.sg_base.specs.declared.scope.Scope.{Scope}
 use Rattle.sg_reading.specs.Reading.{done, and_then, each}
 use Rattle.sg_reading.proofs.Asking.{any_ends, each-asked, each-ends}
+use Rattle.jv_diag.specs.declared.codes.TheConstants.{ABSTRACT, INACCESSIBLE_MEMBER, NUMBER_OF_ARGUMENTS, TOO_MANY_PATHS, UNKNOWN_METHOD}
 use Rattle.jv_diag.specs.Plain.{DiagOf}
 use Rattle.jv_instance.specs.declared.labels.TheConstants.{METH, CTOR}
 use Rattle.jv_instance.specs.declared.ty.Ty.{Ty}
@@ -12,6 +13,7 @@ use Rattle.jv_instance.specs.declared.type_base.TypeBase.{TypeBase}
 use Rattle.jv_instance.specs.declared.type_base.TypeBase.TheVariants.{Boolean, Char, Int, Long, Class, Null, Void, Bad}
 use Rattle.jv_instance.specs.Types.{is_bad}
 use Rattle.jv_layout.specs.Folder.{LayoutOf, text_of}
+use Rattle.jv_layout.specs.Linked.{IsLinked}
 use Rattle.jv_layout.specs.Readers.{is_abstract_of, is_interface_of, object_scope, owner_scope}
 use Rattle.jv_tree.specs.declared.name.Ident.{Ident}
 use Rattle.jv_tree.specs.declared.names.NameId.{NameId}
@@ -125,18 +127,19 @@ module _ (l : LayoutOf) (count : ℕ) where
   abbrev AreMethods : Ends → Type 0
   AreMethods e = EndsOnly (IsMethodScope l) e
 
-  pub methods_asks : (c : Scope) (n : NameId) → IsTypeScope l c → n.0 < count → AsksIn l count AreMethods (methods l c n)
-  methods_asks c n h k = of_names l count AreMethods (methods l c n) (methods_stay_in l count c n h k)
+  module _ (linked : IsLinked l) where
+    pub methods_asks : (c : Scope) (n : NameId) → IsTypeScope l c → n.0 < count → AsksIn l count AreMethods (methods l c n)
+    methods_asks c n h k = of_names l count AreMethods (methods l c n) (methods_stay_in l count c n linked h k)
 
-  or_objects_asks : (c : Scope) (n : NameId) (e : Ends) → IsTypeScope l c → n.0 < count → AreMethods e → AsksIn l count AreMethods (or_objects l c n e)
-  or_objects_asks c n TooMany h k e = done_asks l count AreMethods TooMany tt
-  or_objects_asks c n (Scopes []) h k e =
-      cond_asks l count AreMethods (is_interface_of l c) (methods l (object_scope l) n) (done (Scopes [])) (methods_asks (object_scope l) n (object_is_type l c h) k) (done_asks l count AreMethods (Scopes []) (All-nil (IsMethodScope l)))
-  or_objects_asks c n (Scopes (m ∷ ms)) h k e = done_asks l count AreMethods (Scopes (m ∷ ms)) e
+    or_objects_asks : (c : Scope) (n : NameId) (e : Ends) → IsTypeScope l c → n.0 < count → AreMethods e → AsksIn l count AreMethods (or_objects l c n e)
+    or_objects_asks c n TooMany h k e = done_asks l count AreMethods TooMany tt
+    or_objects_asks c n (Scopes []) h k e =
+        cond_asks l count AreMethods (is_interface_of l c) (methods l (object_scope l) n) (done (Scopes [])) (methods_asks (object_scope l) n (object_is_type l c h) k) (done_asks l count AreMethods (Scopes []) (All-nil (IsMethodScope l)))
+    or_objects_asks c n (Scopes (m ∷ ms)) h k e = done_asks l count AreMethods (Scopes (m ∷ ms)) e
 
-  class_methods_asks : (c : Scope) (n : NameId) → IsTypeScope l c → n.0 < count → AsksIn l count AreMethods (class_methods l c n)
-  unfolding class_methods
-  class_methods_asks c n h k = then_asks l count AreMethods AreMethods (methods l c n) (or_objects l c n) (methods_asks c n h k) (λ e f. or_objects_asks c n e h k f)
+    class_methods_asks : (c : Scope) (n : NameId) → IsTypeScope l c → n.0 < count → AsksIn l count AreMethods (class_methods l c n)
+    unfolding class_methods
+    class_methods_asks c n h k = then_asks l count AreMethods AreMethods (methods l c n) (or_objects l c n) (methods_asks c n h k) (λ e f. or_objects_asks c n e h k f)
 
 -- ---- calls
 
@@ -160,9 +163,9 @@ module _ (site : SiteOf) (count : ℕ) (is : IsSiteIn count site) where
   applied_by_asks : (at : ℕ) (text : List ℕ) (as' : List Argument) (o : Option SignatureOf) (ds : List DiagOf) → AreArgumentsIn L as' → IsSignatureIn L o → AsksIn L count O (applied_by site at text as' o ds)
   applied_by_asks at text as' None ds h k = done_asks L count O (Some bad_type, ds) tt
   applied_by_asks at text as' (Some s) ds h k =
-      cond_asks L count O (length s.params == length as') (and_then (arguments_fit site s.params as' ds) (λ ds. done (Some s.result, ds))) (done (None, with_fault site at 47 (text ∷ []) ds))
+      cond_asks L count O (length s.params == length as') (and_then (arguments_fit site s.params as' ds) (λ ds. done (Some s.result, ds))) (done (None, with_fault site at NUMBER_OF_ARGUMENTS (text ∷ []) ds))
       (then_asks L count IsAnything O (arguments_fit site s.params as' ds) (λ ds. done (Some s.result, ds)) (arguments_fit_asks s.params as' ds h) (λ ds e. done_asks L count O (Some s.result, ds) k.0))
-      (done_asks L count O (None, with_fault site at 47 (text ∷ []) ds) tt)
+      (done_asks L count O (None, with_fault site at NUMBER_OF_ARGUMENTS (text ∷ []) ds) tt)
 
   pub applied_asks : (at : ℕ) (text : List ℕ) (as' : List Argument) (o : Option SignatureOf) (ds : List DiagOf) → AreArgumentsIn L as' → IsSignatureIn L o → AsksIn L count O (applied site at text as' o ds)
   unfolding applied
@@ -193,27 +196,27 @@ module _ (site : SiteOf) (count : ℕ) (is : IsSiteIn count site) where
     bad_call_asks i code ds = done_asks L count T (bad_type, with_named site i code ds) tt
 
     called_of_asks : (how : Manner) (i : Ident) (ms : List Scope) (ds : List DiagOf) → IsMannerIn how → All (IsMethodScope L) ms → AsksIn L count T (called_of site how i as' ms ds)
-    called_of_asks how i [] ds h k = bad_call_asks i 42 ds
+    called_of_asks how i [] ds h k = bad_call_asks i UNKNOWN_METHOD ds
     called_of_asks how i (m ∷ ms) ds h k =
         then_asks L count (IsMethodScope L) T (chosen L m ms) (λ n. method_called site how i as' n ds) (chosen_asks L count m ms k) (λ n e. method_called_asks how i n ds h e)
 
     called_among_asks : (how : Manner) (i : Ident) (e : Ends) (ds : List DiagOf) → IsMannerIn how → EndsOnly (IsMethodScope L) e → AsksIn L count T (called_among site how i as' e ds)
-    called_among_asks how i TooMany ds h k = bad_call_asks i 41 ds
+    called_among_asks how i TooMany ds h k = bad_call_asks i TOO_MANY_PATHS ds
     called_among_asks how i (Scopes ms) ds h k = called_of_asks how i ms ds h k
 
     class_call_asks : (how : Manner) (c : Scope) (i : Ident) (ds : List DiagOf) → IsMannerIn how → IsTypeScope L c → IsNumberedIdent count i → AsksIn L count T (class_call site how c i as' ds)
     unfolding class_call
     class_call_asks how c i ds h k n =
-        then_asks L count (EndsOnly (IsMethodScope L)) T (class_methods L c i.id) (λ e. called_among site how i as' e ds) (class_methods_asks L count c i.id k n) (λ e f. called_among_asks how i e ds h f)
+        then_asks L count (EndsOnly (IsMethodScope L)) T (class_methods L c i.id) (λ e. called_among site how i as' e ds) (class_methods_asks L count is.linked c i.id k n) (λ e f. called_among_asks how i e ds h f)
 
     base_call_asks : (b : TypeBase) (i : Ident) (ds : List DiagOf) → IsBaseIn L b → IsNumberedIdent count i → AsksIn L count T (base_call site b i as' ds)
     base_call_asks (Class c) i ds h n = class_call_asks (through c) c i ds h h n
-    base_call_asks Boolean i ds h n = bad_call_asks i 42 ds
-    base_call_asks Char i ds h n = bad_call_asks i 42 ds
-    base_call_asks Int i ds h n = bad_call_asks i 42 ds
-    base_call_asks Long i ds h n = bad_call_asks i 42 ds
-    base_call_asks Null i ds h n = bad_call_asks i 42 ds
-    base_call_asks Void i ds h n = bad_call_asks i 42 ds
+    base_call_asks Boolean i ds h n = bad_call_asks i UNKNOWN_METHOD ds
+    base_call_asks Char i ds h n = bad_call_asks i UNKNOWN_METHOD ds
+    base_call_asks Int i ds h n = bad_call_asks i UNKNOWN_METHOD ds
+    base_call_asks Long i ds h n = bad_call_asks i UNKNOWN_METHOD ds
+    base_call_asks Null i ds h n = bad_call_asks i UNKNOWN_METHOD ds
+    base_call_asks Void i ds h n = bad_call_asks i UNKNOWN_METHOD ds
     base_call_asks Bad i ds h n = done_asks L count T (bad_type, ds) tt
 
     value_call_asks : (t : Ty) (i : Ident) (ds : List DiagOf) → IsTyIn L t → IsNumberedIdent count i → AsksIn L count T (value_call site t i as' ds)
@@ -225,17 +228,17 @@ module _ (site : SiteOf) (count : ℕ) (is : IsSiteIn count site) where
     pub front_call_asks : (f : Front) (i : Ident) (ds : List DiagOf) → IsFrontIn L f → IsNumberedIdent count i → AsksIn L count T (front_call site f i as' ds)
     unfolding front_call
     front_call_asks (ValueFront v) i ds h n = value_call_asks v.ty i ds h n
-    front_call_asks (TypeFront t) i ds h n = class_call_asks (record { through = Some t; free = false; concrete = false }) t i ds h h n
+    front_call_asks (TypeFront t) i ds h n = class_call_asks (record { through = Some t; free = false; concrete = false; on_value = false }) t i ds h h n
 
     bare_among_asks : (b : Scope) (i : Ident) (ds : List DiagOf) (next : Checking Ty) (e : Ends) → EndsOnly (IsMethodScope L) e → AsksIn L count T next → AsksIn L count T (bare_among site b i as' ds next e)
-    bare_among_asks b i ds next TooMany h k = bad_call_asks i 41 ds
+    bare_among_asks b i ds next TooMany h k = bad_call_asks i TOO_MANY_PATHS ds
     bare_among_asks b i ds next (Scopes []) h k = k
-    bare_among_asks b i ds next (Scopes (m ∷ ms)) h k = called_of_asks (record { through = None; free = has_instance site b; concrete = false }) i (m ∷ ms) ds tt h
+    bare_among_asks b i ds next (Scopes (m ∷ ms)) h k = called_of_asks (record { through = None; free = has_instance site b; concrete = false; on_value = false }) i (m ∷ ms) ds tt h
 
     bare_in_asks : (bs : List Scope) (i : Ident) (ds : List DiagOf) → AreTypes L bs → IsNumberedIdent count i → AsksIn L count T (bare_in site bs i as' ds)
-    bare_in_asks [] i ds h n = bad_call_asks i 42 ds
+    bare_in_asks [] i ds h n = bad_call_asks i UNKNOWN_METHOD ds
     bare_in_asks (b ∷ bs) i ds h n =
-        then_asks L count (EndsOnly (IsMethodScope L)) T (methods L b i.id) (bare_among site b i as' ds (bare_in site bs i as' ds)) (methods_asks L count b i.id (All-head (IsTypeScope L) b bs h) n)
+        then_asks L count (EndsOnly (IsMethodScope L)) T (methods L b i.id) (bare_among site b i as' ds (bare_in site bs i as' ds)) (methods_asks L count is.linked b i.id (All-head (IsTypeScope L) b bs h) n)
         (λ e f. bare_among_asks b i ds (bare_in site bs i as' ds) e f (bare_in_asks bs i ds (All-tail (IsTypeScope L) b bs h) n))
 
     pub bare_call_asks : (i : Ident) (ds : List DiagOf) → IsNumberedIdent count i → AsksIn L count T (bare_call site i as' ds)
@@ -250,8 +253,8 @@ module _ (site : SiteOf) (count : ℕ) (is : IsSiteIn count site) where
     above_call_asks : (i : Ident) (ds : List DiagOf) → IsNumberedIdent count i → AsksIn L count T (above_call site i as' ds)
     unfolding above_call
     above_call_asks i ds n =
-        then_asks L count (IsTypeScope L) T (superclass L site.class site.extends) (λ s. class_call site (record { through = None; free = true; concrete = true }) s i as' ds) above_asks
-        (λ s e. class_call_asks (record { through = None; free = true; concrete = true }) s i ds tt e n)
+        then_asks L count (IsTypeScope L) T (superclass L site.class site.extends) (λ s. class_call site (record { through = None; free = true; concrete = true; on_value = false }) s i as' ds) above_asks
+        (λ s e. class_call_asks (record { through = None; free = true; concrete = true; on_value = false }) s i ds tt e n)
 
     pub super_call_asks : (at : ℕ) (i : Ident) (ds : List DiagOf) → IsNumberedIdent count i → AsksIn L count T (super_call site at i as' ds)
     unfolding super_call
@@ -270,12 +273,12 @@ module _ (site : SiteOf) (count : ℕ) (is : IsSiteIn count site) where
     ctor_called_asks t c at None ds h k = done_asks L count IsAnything (true, ds) tt
     ctor_called_asks t c at (Some m) ds h k =
         then_asks L count IsAnything IsAnything (member_accessible L site.file site.bodies m t)
-        (λ ok. and_then (signature_of L m) (λ s. and_then (applied site at (class_text site c) as' s (with_fault_if (not ok) site at 44 (class_text site c ∷ []) ds)) (λ r. done (ok && is_some r.0, r.1))))
+        (λ ok. and_then (signature_of L m) (λ s. and_then (applied site at (class_text site c) as' s (with_fault_if (not ok) site at INACCESSIBLE_MEMBER (class_text site c ∷ []) ds)) (λ r. done (ok && is_some r.0, r.1))))
         (accessible_asks site count is m t h)
-        (λ ok u. then_asks L count (IsSignatureIn L) IsAnything (signature_of L m) (λ s. and_then (applied site at (class_text site c) as' s (with_fault_if (not ok) site at 44 (class_text site c ∷ []) ds)) (λ r. done (ok && is_some r.0, r.1)))
+        (λ ok u. then_asks L count (IsSignatureIn L) IsAnything (signature_of L m) (λ s. and_then (applied site at (class_text site c) as' s (with_fault_if (not ok) site at INACCESSIBLE_MEMBER (class_text site c ∷ []) ds)) (λ r. done (ok && is_some r.0, r.1)))
         (signatures_ask_in L count m (member_is_listed L CTOR m k))
-        (λ s e. then_asks L count O IsAnything (applied site at (class_text site c) as' s (with_fault_if (not ok) site at 44 (class_text site c ∷ []) ds)) (λ r. done (ok && is_some r.0, r.1))
-        (applied_asks at (class_text site c) as' s (with_fault_if (not ok) site at 44 (class_text site c ∷ []) ds) given e)
+        (λ s e. then_asks L count O IsAnything (applied site at (class_text site c) as' s (with_fault_if (not ok) site at INACCESSIBLE_MEMBER (class_text site c ∷ []) ds)) (λ r. done (ok && is_some r.0, r.1))
+        (applied_asks at (class_text site c) as' s (with_fault_if (not ok) site at INACCESSIBLE_MEMBER (class_text site c ∷ []) ds) given e)
         (λ r f. done_asks L count IsAnything (ok && is_some r.0, r.1) tt)))
 
     ctor_call_asks : (t : Option Scope) (c : Scope) (at : ℕ) (ds : List DiagOf) → IfSome t (IsTypeScope L) → IsTypeScope L c → AsksIn L count IsAnything (ctor_call site t c at as' ds)
@@ -286,9 +289,9 @@ module _ (site : SiteOf) (count : ℕ) (is : IsSiteIn count site) where
     new_class_asks : (c : Scope) (at : ℕ) (ds : List DiagOf) → IsTypeScope L c → AsksIn L count T (new_class site c at as' ds)
     unfolding new_class
     new_class_asks c at ds h =
-        then_asks L count IsAnything T (ctor_call site (Some c) c at as' (with_fault_if (is_abstract_class site c) site at 49 (class_text site c ∷ []) ds))
+        then_asks L count IsAnything T (ctor_call site (Some c) c at as' (with_fault_if (is_abstract_class site c) site at ABSTRACT (class_text site c ∷ []) ds))
         (λ called. and_then (has_enclosing L site.instances c (owner_scope L c)) (λ enclosed. done (unless_faulty (is_abstract_class site c || not (called.0 && enclosed)) (class_type c), with_enclosing enclosed site at c called.1)))
-        (ctor_call_asks (Some c) c at (with_fault_if (is_abstract_class site c) site at 49 (class_text site c ∷ []) ds) h h)
+        (ctor_call_asks (Some c) c at (with_fault_if (is_abstract_class site c) site at ABSTRACT (class_text site c ∷ []) ds) h h)
         (λ called u. then_asks L count IsAnything T (has_enclosing L site.instances c (owner_scope L c)) (λ enclosed. done (unless_faulty (is_abstract_class site c || not (called.0 && enclosed)) (class_type c), with_enclosing enclosed site at c called.1))
         (instances_ask_in L count site.instances c (owner_scope L c) is.instances)
         (λ enclosed e. done_asks L count T (unless_faulty (is_abstract_class site c || not (called.0 && enclosed)) (class_type c), with_enclosing enclosed site at c called.1)

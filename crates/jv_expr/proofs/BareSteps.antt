@@ -5,6 +5,7 @@ use Rattle.sg_base.specs.declared.scope.Scope.{Scope}
 use Rattle.sg_reading.specs.Reading.{and_then}
 use Rattle.sg_reading.specs.Stop.{Reads}
 use Rattle.sg_reading.proofs.Steps.{done_reads, then_ok, then_err}
+use Rattle.jv_diag.specs.declared.codes.TheConstants.{TOO_MANY_PATHS, UNKNOWN_METHOD}
 use Rattle.jv_diag.specs.Plain.{DiagOf}
 use Rattle.jv_instance.specs.declared.ty.Ty.{Ty}
 use Rattle.jv_layout.specs.Folder.{LayoutOf}
@@ -37,8 +38,8 @@ module _ (reply : Replies) (site : SiteOf) (i : Ident) (as' : List Argument) (ds
             (subst (λ (l : LayoutOf). Reads reply (methods l (get_or bodies n b) i.id) (Ok found)) is g)
             (subst (λ (k : Ends). Reads reply (bare_among site (get_or bodies n b) i as' ds (bare_in site (drop (n + 1) bodies) i as' ds) k) x) (sym e) h))
 
-        pub too_many : (t : Ty) (ds' : List DiagOf) → found ≡ TooMany → t ≡ bad_type → ds' ≡ with_named site i 41 ds → Reads reply (bare_in site (drop n bodies) i as' ds) (Ok (t, ds'))
-        too_many t ds' e bad more = by_ends TooMany (Ok (t, ds')) e (done_reads reply (bad_type, with_named site i 41 ds) (t, ds') (λ j. (sym bad j, sym more j)))
+        pub too_many : (t : Ty) (ds' : List DiagOf) → found ≡ TooMany → t ≡ bad_type → ds' ≡ with_named site i TOO_MANY_PATHS ds → Reads reply (bare_in site (drop n bodies) i as' ds) (Ok (t, ds'))
+        too_many t ds' e bad more = by_ends TooMany (Ok (t, ds')) e (done_reads reply (bad_type, with_named site i TOO_MANY_PATHS ds) (t, ds') (λ j. (sym bad j, sym more j)))
 
         pub next_body : (ms : List Scope) (x : Result (Ty × List DiagOf) Need) → found ≡ Scopes ms → length ms ≡ 0 → Reads reply (bare_in site (drop (n + 1) bodies) i as' ds) x → Reads reply (bare_in site (drop n bodies) i as' ds) x
         next_body ms x e none h = by_ends (Scopes ms) x e (go ms none)
@@ -48,17 +49,17 @@ module _ (reply : Replies) (site : SiteOf) (i : Ident) (as' : List Argument) (ds
             go (m ∷ more) none = absurd (omega (arith, none))
 
         pub this_body : (ms ms' : List Scope) (free : Bool) (x : Result (Ty × List DiagOf) Need) → found ≡ Scopes ms → 0 < length ms → ms' ≡ ms → free ≡ has_instance site (get_or bodies n b)
-            → Reads reply (called_of site (record { through = None; free = free; concrete = false }) i as' ms' ds) x → Reads reply (bare_in site (drop n bodies) i as' ds) x
+            → Reads reply (called_of site (record { through = None; free = free; concrete = false; on_value = false }) i as' ms' ds) x → Reads reply (bare_in site (drop n bodies) i as' ds) x
         this_body ms ms' free x e some are held h =
             by_ends (Scopes ms) x e
-            (go ms some (subst (λ (f : Bool). Reads reply (called_of site (record { through = None; free = f; concrete = false }) i as' ms ds) x) held
-            (subst (λ (ks : List Scope). Reads reply (called_of site (record { through = None; free = free; concrete = false }) i as' ks ds) x) are h)))
+            (go ms some (subst (λ (f : Bool). Reads reply (called_of site (record { through = None; free = f; concrete = false; on_value = false }) i as' ms ds) x) held
+            (subst (λ (ks : List Scope). Reads reply (called_of site (record { through = None; free = free; concrete = false; on_value = false }) i as' ks ds) x) are h)))
           where
-            go : (ms : List Scope) → 0 < length ms → Reads reply (called_of site (record { through = None; free = has_instance site (get_or bodies n b); concrete = false }) i as' ms ds) x → Reads reply (bare_among site (get_or bodies n b) i as' ds (bare_in site (drop (n + 1) bodies) i as' ds) (Scopes ms)) x
+            go : (ms : List Scope) → 0 < length ms → Reads reply (called_of site (record { through = None; free = has_instance site (get_or bodies n b); concrete = false; on_value = false }) i as' ms ds) x → Reads reply (bare_among site (get_or bodies n b) i as' ds (bare_in site (drop (n + 1) bodies) i as' ds) (Scopes ms)) x
             go [] some h = absurd (omega (arith, some))
             go (m ∷ more) some h = h
 
-    pub no_body : (v : Ty × List DiagOf) → length bodies ≤ n → v ≡ (bad_type, with_named site i 42 ds) → Reads reply (bare_in site (drop n bodies) i as' ds) (Ok v)
-    no_body v past is = subst (λ (r : Checking Ty). Reads reply r (Ok v)) (sym (at_drop_all (λ (bs : List Scope). bare_in site bs i as' ds) bodies n past)) (done_reads reply (bad_type, with_named site i 42 ds) v (sym is))
+    pub no_body : (v : Ty × List DiagOf) → length bodies ≤ n → v ≡ (bad_type, with_named site i UNKNOWN_METHOD ds) → Reads reply (bare_in site (drop n bodies) i as' ds) (Ok v)
+    no_body v past is = subst (λ (r : Checking Ty). Reads reply r (Ok v)) (sym (at_drop_all (λ (bs : List Scope). bare_in site bs i as' ds) bodies n past)) (done_reads reply (bad_type, with_named site i UNKNOWN_METHOD ds) v (sym is))
 
 pub ruleset bare_steps = (call_steps, body_unknown, too_many, next_body, this_body, no_body)

@@ -8,6 +8,7 @@ use Rattle.sg_reading.specs.declared.stop.Stop.TheVariants.{OutOfMemory}
 use Rattle.sg_reading.specs.Reading.{done}
 use Rattle.sg_reading.specs.Stop.{Reads}
 use Rattle.sg_reading.proofs.Steps.{done_reads, memory_reads, then_ok, then_err, reading_steps}
+use Rattle.jv_diag.specs.declared.codes.TheConstants.{UNKNOWN_METHOD}
 use Rattle.jv_diag.specs.Plain.{DiagOf}
 use Rattle.jv_instance.specs.declared.datum.JavaDatum.{JavaDatum}
 use Rattle.jv_instance.specs.declared.pred.JavaPred.{JavaPred}
@@ -53,11 +54,11 @@ module _ (reply : Replies) where
 -- ---- the methods of a name
 
 module _ (reply : Replies) (site : SiteOf) (how : Manner) (i : Ident) (as' : List Argument) (ms : List Scope) (ds : List DiagOf) where
-  pub none_called : (v : Ty × List DiagOf) → length ms ≡ 0 → v ≡ (bad_type, with_named site i 42 ds) → Reads reply (called_of site how i as' ms ds) (Ok v)
+  pub none_called : (v : Ty × List DiagOf) → length ms ≡ 0 → v ≡ (bad_type, with_named site i UNKNOWN_METHOD ds) → Reads reply (called_of site how i as' ms ds) (Ok v)
   none_called v none e = go ms none
     where
       go : (ms : List Scope) → length ms ≡ 0 → Reads reply (called_of site how i as' ms ds) (Ok v)
-      go [] none = done_reads reply (bad_type, with_named site i 42 ds) v (sym e)
+      go [] none = done_reads reply (bad_type, with_named site i UNKNOWN_METHOD ds) v (sym e)
       go (m ∷ more) none = absurd (omega (arith, none))
 
   pub one_called : (m : Scope) (more : List Scope) (k : Scope) (x : Result (Ty × List DiagOf) Need) → ms ≡ m ∷ more → Reads reply (chosen site.layout m more) (Ok k) → Reads reply (method_called site how i as' k ds) x → Reads reply (called_of site how i as' ms ds) x

@@ -2,13 +2,14 @@
 use Rattle.std.specs.Prelude.{ℕ, ◌==◌, ◌&&◌, ◌||◌, not, nat_lt, Bool, true, false, cond, List, [], ◌∷◌, length, Option, None, Some, is_some, codes}
 use Rattle.sg_base.specs.declared.scope.Scope.{Scope}
 use Rattle.sg_reading.specs.Reading.{done, and_then, each}
+use Rattle.jv_diag.specs.declared.codes.TheConstants.{ABSTRACT, INACCESSIBLE_MEMBER, NO_ENCLOSING_INSTANCE, NO_INSTANCE, NUMBER_OF_ARGUMENTS, STATIC_OF_INTERFACE, TOO_MANY_PATHS, UNKNOWN_METHOD}
 use Rattle.jv_diag.specs.Plain.{DiagOf}
 use Rattle.jv_instance.specs.declared.ty.Ty.{Ty}
 use Rattle.jv_instance.specs.declared.type_base.TypeBase.{TypeBase}
 use Rattle.jv_instance.specs.declared.type_base.TypeBase.TheVariants.{Boolean, Char, Int, Long, Class, Null, Void, Bad}
 use Rattle.jv_instance.specs.Types.{is_bad}
 use Rattle.jv_layout.specs.Folder.{LayoutOf, text_of}
-use Rattle.jv_layout.specs.Readers.{is_abstract_of, is_interface_of, object_scope, owner_scope}
+use Rattle.jv_layout.specs.Readers.{is_abstract_of, is_interface_method_of, is_interface_of, is_static_of, object_scope, owner_scope}
 use Rattle.jv_layout.specs.Duplicates.{simple_name}
 use Rattle.jv_tree.specs.declared.name.Ident.{Ident}
 use Rattle.jv_tree.specs.declared.names.NameId.{NameId}
@@ -44,7 +45,7 @@ arguments_fit site (p ∷ ps) (a ∷ as') ds = and_then (assigned_to site a.at a
 -- a signature is called with arguments, by a text at an offset: its result, where it takes so many
 abbrev pub applied_to : SiteOf → ℕ → List ℕ → List Argument → SignatureOf → List DiagOf → Checking (Option Ty)
 applied_to site at text as' s ds =
-    cond (length s.params == length as') (and_then (arguments_fit site s.params as' ds) (λ ds. done (Some s.result, ds))) (done (None, with_fault site at 47 (text ∷ []) ds))
+    cond (length s.params == length as') (and_then (arguments_fit site s.params as' ds) (λ ds. done (Some s.result, ds))) (done (None, with_fault site at NUMBER_OF_ARGUMENTS (text ∷ []) ds))
 
 -- what has no signature gives a bad result, and asks for no arguments
 abbrev pub applied_by : SiteOf → ℕ → List ℕ → List Argument → Option SignatureOf → List DiagOf → Checking (Option Ty)
@@ -77,24 +78,32 @@ chosen l m ms = chosen_of l m ms
 
 -- ---- calls of methods (JLS 15.12)
 
--- how a method is called: through a receiver of a type or without one, whether an instance method may stand there, and whether an abstract one may not
+-- how a method is called: through a receiver of a type or without one, whether an instance method may stand there, whether an abstract one may not, and
+-- whether a value stands in front of the dot
 pub record Manner : Type 0 where
   pub through : Option Scope
   pub free : Bool
   pub concrete : Bool
+  pub on_value : Bool
 
 -- an abstract method that is called through `super`
 abbrev pub is_missing : SiteOf → Manner → Scope → Bool
 is_missing site how m = how.concrete && is_abstract_of site.layout m
 
+-- a static method of an interface that is called on a value
+abbrev pub is_misplaced : SiteOf → Manner → Scope → Bool
+is_misplaced site how m = how.on_value && (is_interface_method_of site.layout m && is_static_of site.layout m)
+
 -- what is wrong with a method that is called at an identifier
 abbrev pub with_call : SiteOf → Manner → Ident → Scope → Bool → List DiagOf → List DiagOf
 with_call site how i m ok ds =
-    with_named_if (is_missing site how m) site i 49 (with_named_if (lacks_instance site how.free m) site i 48 (with_named_if (not ok) site i 44 ds))
+    with_named_if (is_misplaced site how m) site i STATIC_OF_INTERFACE (with_named_if (is_missing site how m) site i ABSTRACT
+    (with_named_if (lacks_instance site how.free m) site i NO_INSTANCE (with_named_if (not ok) site i INACCESSIBLE_MEMBER ds)))
 
--- something is wrong with it: it is not accessible, lacks an instance, or is abstract and called through `super`
+-- something is wrong with it: it is not accessible, lacks an instance, is abstract and called through `super`, or is a static one of an interface and
+-- called on a value
 abbrev pub is_faulty_call : SiteOf → Manner → Scope → Bool → Bool
-is_faulty_call site how m ok = not ok || (lacks_instance site how.free m || is_missing site how m)
+is_faulty_call site how m ok = not ok || (lacks_instance site how.free m || (is_missing site how m || is_misplaced site how m))
 
 -- the type of a call, unless something was wrong
 abbrev pub call_type : Bool → Option Ty → Ty
@@ -113,12 +122,12 @@ bad_call site i code ds = done (bad_type, with_named site i code ds)
 
 -- of the methods of a name
 abbrev pub called_of : SiteOf → Manner → Ident → List Argument → List Scope → List DiagOf → Checking Ty
-called_of site how i as' [] ds = bad_call site i 42 ds
+called_of site how i as' [] ds = bad_call site i UNKNOWN_METHOD ds
 called_of site how i as' (m ∷ ms) ds = and_then (chosen site.layout m ms) (λ k. method_called site how i as' k ds)
 
 -- of the methods of a name that were found; that there are too many paths is said
 abbrev pub called_among : SiteOf → Manner → Ident → List Argument → Ends → List DiagOf → Checking Ty
-called_among site how i as' TooMany ds = bad_call site i 41 ds
+called_among site how i as' TooMany ds = bad_call site i TOO_MANY_PATHS ds
 called_among site how i as' (Scopes ms) ds = called_of site how i as' ms ds
 
 -- for an interface without such a method, those of `Object` (JLS 9.2)
@@ -135,19 +144,19 @@ class_methods l c n = and_then (methods l c n) (or_objects l c n)
 unfoldable pub class_call : SiteOf → Manner → Scope → Ident → List Argument → List DiagOf → Checking Ty
 class_call site how c i as' ds = and_then (class_methods site.layout c i.id) (λ e. called_among site how i as' e ds)
 
--- through a receiver of this type
+-- on a value of this type
 abbrev pub through : Scope → Manner
-through c = record { through = Some c; free = true; concrete = false }
+through c = record { through = Some c; free = true; concrete = false; on_value = true }
 
 -- a method is called on a value of this base: of a class or an interface; others have none, and of a bad one nothing is said
 abbrev pub base_call : SiteOf → TypeBase → Ident → List Argument → List DiagOf → Checking Ty
 base_call site (Class c) i as' ds = class_call site (through c) c i as' ds
-base_call site Boolean i as' ds = bad_call site i 42 ds
-base_call site Char i as' ds = bad_call site i 42 ds
-base_call site Int i as' ds = bad_call site i 42 ds
-base_call site Long i as' ds = bad_call site i 42 ds
-base_call site Null i as' ds = bad_call site i 42 ds
-base_call site Void i as' ds = bad_call site i 42 ds
+base_call site Boolean i as' ds = bad_call site i UNKNOWN_METHOD ds
+base_call site Char i as' ds = bad_call site i UNKNOWN_METHOD ds
+base_call site Int i as' ds = bad_call site i UNKNOWN_METHOD ds
+base_call site Long i as' ds = bad_call site i UNKNOWN_METHOD ds
+base_call site Null i as' ds = bad_call site i UNKNOWN_METHOD ds
+base_call site Void i as' ds = bad_call site i UNKNOWN_METHOD ds
 base_call site Bad i as' ds = done (bad_type, ds)
 
 -- a method is called on a value of this type; on an array those of `Object` are
@@ -158,7 +167,7 @@ value_call site t i as' ds =
 -- what stands in front of the dot: a value, or a type, whose method is static
 abbrev pub front_call_of : SiteOf → Front → Ident → List Argument → List DiagOf → Checking Ty
 front_call_of site (ValueFront v) i as' ds = value_call site v.ty i as' ds
-front_call_of site (TypeFront t) i as' ds = class_call site (record { through = Some t; free = false; concrete = false }) t i as' ds
+front_call_of site (TypeFront t) i as' ds = class_call site (record { through = Some t; free = false; concrete = false; on_value = false }) t i as' ds
 
 -- a method is called on what stands in front of the dot
 unfoldable pub front_call : SiteOf → Front → Ident → List Argument → List DiagOf → Checking Ty
@@ -166,14 +175,14 @@ front_call site f i as' ds = front_call_of site f i as' ds
 
 -- the methods of a name in the bodies outward: of the first that has some; none is found where no body is left
 abbrev pub bare_among : SiteOf → Scope → Ident → List Argument → List DiagOf → Checking Ty → Ends → Checking Ty
-bare_among site b i as' ds next TooMany = bad_call site i 41 ds
+bare_among site b i as' ds next TooMany = bad_call site i TOO_MANY_PATHS ds
 bare_among site b i as' ds next (Scopes []) = next
 bare_among site b i as' ds next (Scopes (m ∷ ms)) =
-    called_of site (record { through = None; free = has_instance site b; concrete = false }) i as' (m ∷ ms) ds
+    called_of site (record { through = None; free = has_instance site b; concrete = false; on_value = false }) i as' (m ∷ ms) ds
 
 -- a bare call: of the innermost body that has a method of the name
 abbrev pub bare_in : SiteOf → List Scope → Ident → List Argument → List DiagOf → Checking Ty
-bare_in site [] i as' ds = bad_call site i 42 ds
+bare_in site [] i as' ds = bad_call site i UNKNOWN_METHOD ds
 bare_in site (b ∷ bs) i as' ds = and_then (methods site.layout b i.id) (bare_among site b i as' ds (bare_in site bs i as' ds))
 
 -- a method is called by its name alone, in the bodies around the place
@@ -184,7 +193,7 @@ bare_call site i as' ds = bare_in site site.bodies i as' ds
 
 -- `super` without an instance of a class's body, at an offset
 abbrev pub bad_super : SiteOf → ℕ → List DiagOf → List DiagOf
-bad_super site at ds = with_fault site at 48 (codes "super" ∷ []) ds
+bad_super site at ds = with_fault site at NO_INSTANCE (codes "super" ∷ []) ds
 
 -- where there is no instance of the class, that is said of `super`
 abbrev pub with_super : SiteOf → ℕ → List DiagOf → List DiagOf
@@ -193,7 +202,7 @@ with_super site at ds = cond (has_this site) ds (bad_super site at ds)
 -- a method of the superclass is called, which may not be abstract
 unfoldable pub above_call : SiteOf → Ident → List Argument → List DiagOf → Checking Ty
 above_call site i as' ds =
-    and_then (superclass site.layout site.class site.extends) (λ s. class_call site (record { through = None; free = true; concrete = true }) s i as' ds)
+    and_then (superclass site.layout site.class site.extends) (λ s. class_call site (record { through = None; free = true; concrete = true; on_value = false }) s i as' ds)
 
 -- a call through `super`: in an interface nothing is looked up, and without an instance the method is looked for all the same
 unfoldable pub super_call : SiteOf → ℕ → Ident → List Argument → List DiagOf → Checking Ty
@@ -227,7 +236,7 @@ abbrev pub ctor_called : SiteOf → Option Scope → Scope → ℕ → List Argu
 ctor_called site through c at as' None ds = done (true, ds)
 ctor_called site through c at as' (Some k) ds =
     and_then (member_accessible site.layout site.file site.bodies k through) (λ ok. and_then (signature_of site.layout k) (λ s.
-    and_then (applied site at (class_text site c) as' s (with_fault_if (not ok) site at 44 (class_text site c ∷ []) ds)) (λ r. done (ok && is_some r.0, r.1))))
+    and_then (applied site at (class_text site c) as' s (with_fault_if (not ok) site at INACCESSIBLE_MEMBER (class_text site c ∷ []) ds)) (λ r. done (ok && is_some r.0, r.1))))
 
 -- the constructor of a class is looked up, and called at an offset: whether nothing was wrong
 unfoldable pub ctor_call : SiteOf → Option Scope → Scope → ℕ → List Argument → List DiagOf → Checking Bool
@@ -235,7 +244,7 @@ ctor_call site through c at as' ds = and_then (ctor_of site.layout c) (λ k. cto
 
 -- the enclosing instance that a class needs is missing, at an offset
 abbrev pub with_enclosing : Bool → SiteOf → ℕ → Scope → List DiagOf → List DiagOf
-with_enclosing ok site at c ds = with_fault_if (not ok) site at 57 (title site c ∷ []) ds
+with_enclosing ok site at c ds = with_fault_if (not ok) site at NO_ENCLOSING_INSTANCE (title site c ∷ []) ds
 
 -- an interface and an abstract class have no instances of their own
 abbrev pub is_abstract_class : SiteOf → Scope → Bool
@@ -248,7 +257,7 @@ class_type c = plain (Class c)
 -- a class is instantiated, whose name starts at an offset
 unfoldable pub new_class : SiteOf → Scope → ℕ → List Argument → List DiagOf → Checking Ty
 new_class site c at as' ds =
-    and_then (ctor_call site (Some c) c at as' (with_fault_if (is_abstract_class site c) site at 49 (class_text site c ∷ []) ds)) (λ called. and_then (has_enclosing site.layout site.instances c (owner_scope site.layout c)) (λ enclosed.
+    and_then (ctor_call site (Some c) c at as' (with_fault_if (is_abstract_class site c) site at ABSTRACT (class_text site c ∷ []) ds)) (λ called. and_then (has_enclosing site.layout site.instances c (owner_scope site.layout c)) (λ enclosed.
     done (unless_faulty (is_abstract_class site c || not (called.0 && enclosed)) (class_type c), with_enclosing enclosed site at c called.1)))
 
 -- by what the name means

@@ -4,4 +4,4 @@ use Rattle.jv_expr.specs.Calls.{Manner}
 
 -- the plain data of the manner of a call of the code
 abbrev pub manner_of : CallManner → Manner
-manner_of how = record { through = how.through; free = how.free; concrete = how.concrete }
+manner_of how = record { through = how.through; free = how.free; concrete = how.concrete; on_value = how.on_value }

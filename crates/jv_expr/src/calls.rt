@@ -21,7 +21,7 @@ use crate::method_calls::{add_bad_call, check_called_of, check_class_call};
 use crate::need::Need;
 use crate::site::Site;
 use crate::value::Value;
-use jv_diag::DiagList;
+use jv_diag::{DiagList, codes};
 use jv_instance::{Ty, TypeBase};
 use jv_names::{Ends, Meaning, Oracle, read_methods, read_superclass};
 use jv_tree::Ident;
@@ -44,10 +44,10 @@ fn add_bad_super(
 ) -> Result<(), AllocError>
     ensures { OnOk result (ds.new ≡ bad_super (site_of site.now) at ds.old) }
 {
-    add_fault(alloc, site, at, 48, &["super"], ds)
+    add_fault(alloc, site, at, codes::NO_INSTANCE, &["super"], ds)
 }
 
-/// The manner of a call through a receiver of a type.
+/// The manner of a call on a value of a type.
 fn through(class: Scope) -> Manner
     ensures { manner_of result ≡ through class }
 {
@@ -55,6 +55,7 @@ fn through(class: Scope) -> Manner
         through: Some(class),
         free: true,
         concrete: false,
+        on_value: true,
     }
 }
 
@@ -82,7 +83,7 @@ fn check_base_call(
         | TypeBase::Int
         | TypeBase::Long
         | TypeBase::Null
-        | TypeBase::Void => Ok(add_bad_call(alloc, site, i, 42, ds)?),
+        | TypeBase::Void => Ok(add_bad_call(alloc, site, i, codes::UNKNOWN_METHOD, ds)?),
     }
 }
 
@@ -128,6 +129,7 @@ pub(crate) fn check_front_call(
                 through: Some(class),
                 free: false,
                 concrete: false,
+                on_value: false,
             };
             check_class_call(alloc, site, o, how, class, i, arguments, ds)
         }
@@ -150,13 +152,14 @@ fn check_call_in(
 {
     for body in bodies {
         match read_methods(alloc, site.layout, o, *body, i.id)? {
-            Ends::TooMany => return Ok(add_bad_call(alloc, site, i, 41, ds)?),
+            Ends::TooMany => return Ok(add_bad_call(alloc, site, i, codes::TOO_MANY_PATHS, ds)?),
             Ends::Scopes(methods) => {
                 if !methods.as_slice().is_empty() {
                     let how = Manner {
                         through: None,
                         free: has_instance(site, *body),
                         concrete: false,
+                        on_value: false,
                     };
                     return check_called_of(
                         alloc,
@@ -172,7 +175,7 @@ fn check_call_in(
             }
         }
     }
-    Ok(add_bad_call(alloc, site, i, 42, ds)?)
+    Ok(add_bad_call(alloc, site, i, codes::UNKNOWN_METHOD, ds)?)
 }
 
 /// A call by a simple name (JLS 15.12.1).
@@ -261,6 +264,7 @@ fn check_above_call(
         through: None,
         free: true,
         concrete: true,
+        on_value: false,
     };
     check_class_call(alloc, site, o, how, class, i, arguments, ds)
 }

@@ -5,7 +5,7 @@ ghost use Rattle.sg_reading.specs.Stop.{Reads};
 ghost use Rattle.jv_diag.specs.Text.{takes};
 ghost use Rattle.jv_types.specs.Operators.{bad_type};
 ghost use Rattle.jv_names.specs.Replies.{reply_to};
-ghost use Rattle.jv_expr.specs.Calls.{call_type, called_among, called_of, class_call, class_methods, is_faulty_call, is_missing, method_called, or_objects, with_call};
+ghost use Rattle.jv_expr.specs.Calls.{call_type, called_among, called_of, class_call, class_methods, is_faulty_call, is_misplaced, is_missing, method_called, or_objects, with_call};
 ghost use Rattle.jv_expr.specs.Checking.{with_diags};
 ghost use Rattle.jv_expr.specs.Fields.{lacks_instance};
 ghost use Rattle.jv_expr.specs.Manners.{manner_of};
@@ -19,7 +19,7 @@ use crate::faults::{add_named, add_named_if};
 use crate::manner::Manner;
 use crate::need::Need;
 use crate::site::Site;
-use jv_diag::DiagList;
+use jv_diag::{DiagList, codes};
 use jv_instance::Ty;
 use jv_layout::{Layout, text_of};
 use jv_names::{Ends, Oracle, read_accessible, read_methods, read_signature_of};
@@ -41,6 +41,13 @@ fn is_missing(site: &Site<'_>, how: Manner, method: Scope) -> bool
     how.concrete && site.layout.is_abstract(method)
 }
 
+/// Whether a static method of an interface is called on a value (JLS 15.12.3).
+fn is_misplaced(site: &Site<'_>, how: Manner, method: Scope) -> bool
+    ensures { result ≡ is_misplaced (site_of site.now) (manner_of how) method }
+{
+    how.on_value && (site.layout.is_interface_method(method) && site.layout.is_static(method))
+}
+
 /// Adds what is wrong with a method that is called at an identifier.
 fn add_call_faults(
     alloc: Global,
@@ -53,23 +60,39 @@ fn add_call_faults(
 ) -> Result<(), AllocError>
     ensures { OnOk result (ds.new ≡ with_call (site_of site.now) (manner_of how) i method ok ds.old) }
 {
-    add_named_if(alloc, !ok, site, i, 44, ds)?;
+    add_named_if(alloc, !ok, site, i, codes::INACCESSIBLE_MEMBER, ds)?;
     add_named_if(
         alloc,
         lacks_instance(site, how.free, method),
         site,
         i,
-        48,
+        codes::NO_INSTANCE,
         ds,
     )?;
-    add_named_if(alloc, is_missing(site, how, method), site, i, 49, ds)
+    add_named_if(
+        alloc,
+        is_missing(site, how, method),
+        site,
+        i,
+        codes::ABSTRACT,
+        ds,
+    )?;
+    add_named_if(
+        alloc,
+        is_misplaced(site, how, method),
+        site,
+        i,
+        codes::STATIC_OF_INTERFACE,
+        ds,
+    )
 }
 
 /// Whether something is wrong with it.
 fn is_faulty_call(site: &Site<'_>, how: Manner, method: Scope, ok: bool) -> bool
     ensures { result ≡ is_faulty_call (site_of site.now) (manner_of how) method ok }
 {
-    !ok || (lacks_instance(site, how.free, method) || is_missing(site, how, method))
+    !ok || (lacks_instance(site, how.free, method)
+        || (is_missing(site, how, method) || is_misplaced(site, how, method)))
 }
 
 /// The type of a call, unless something was wrong.
@@ -138,7 +161,7 @@ pub(crate) fn check_called_of(
     ensures { Reads (reply_to o.now) (called_of (site_of site.now) (manner_of how) i arguments.now methods.now ds.old) (with_diags result ds.new) }
 {
     match methods.split_first() {
-        None => Ok(add_bad_call(alloc, site, i, 42, ds)?),
+        None => Ok(add_bad_call(alloc, site, i, codes::UNKNOWN_METHOD, ds)?),
         Some((first, others)) => {
             let method = read_chosen(alloc, site.layout, o, *first, others, methods)?;
             check_method_called(alloc, site, o, how, i, arguments, method, ds)
@@ -162,7 +185,7 @@ fn check_called_among(
     ensures { Reads (reply_to o.now) (called_among (site_of site.now) (manner_of how) i arguments.now ends.now ds.old) (with_diags result ds.new) }
 {
     match ends {
-        Ends::TooMany => Ok(add_bad_call(alloc, site, i, 41, ds)?),
+        Ends::TooMany => Ok(add_bad_call(alloc, site, i, codes::TOO_MANY_PATHS, ds)?),
         Ends::Scopes(methods) => {
             check_called_of(alloc, site, o, how, i, arguments, methods.as_slice(), ds)
         }

@@ -9,6 +9,7 @@ use Rattle.sg_query.specs.declared.query.Query.{Query}
 use Rattle.sg_reading.specs.declared.known.Known.{Known}
 use Rattle.sg_reading.specs.declared.known.Known.TheVariants.{Is, Need}
 use Rattle.sg_reading.specs.Reading.{Gives, Needs, each}
+use Rattle.jv_diag.specs.declared.codes.TheConstants.{WAITING_HEADER}
 use Rattle.jv_diag.specs.Plain.{DiagOf, diagnostic}
 use Rattle.jv_instance.specs.declared.datum.JavaDatum.{JavaDatum}
 use Rattle.jv_instance.specs.declared.pred.JavaPred.{JavaPred}
@@ -78,4 +79,4 @@ pub record IsCircular (R : Query JavaPred → Answer JavaDatum → Type 0) (l : 
   pub open_reference : IsOpenReference R l c references place
   pub other : Scope
   pub least : IsLeast needed other
-  pub line : d ≡ diagnostic (file_of l c) (start_of (slice_index_or references place [])) 30 (title_of l names c ∷ title_of l names other ∷ [])
+  pub line : d ≡ diagnostic (file_of l c) (start_of (slice_index_or references place [])) WAITING_HEADER (title_of l names c ∷ title_of l names other ∷ [])

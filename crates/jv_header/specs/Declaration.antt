@@ -2,6 +2,7 @@
 use Rattle.std.specs.Prelude.{ℕ, List, [], ◌∷◌, ◌++◌, Bool, false, not, cond, ◌&&◌, ◌||◌, Option, None, Some}
 use Rattle.std.specs.List.{list_any}
 use Rattle.sg_base.specs.declared.scope.Scope.{Scope}
+use Rattle.jv_diag.specs.declared.codes.TheConstants.{DUPLICATE_TYPE, MODIFIERS, NAME_OF_ENCLOSING_TYPE, TYPE_AND_PACKAGE}
 use Rattle.jv_diag.specs.Plain.{DiagOf, diagnostic, fault_if}
 use Rattle.jv_layout.specs.Duplicates.{is_named, is_duplicate, has_subpackage}
 use Rattle.jv_layout.specs.Folder.{LayoutOf, text_of, is_written}
@@ -48,7 +49,7 @@ has_bad_modifiers l c ws =
 -- type, and its modifiers
 abbrev pub declared_diags : LayoutOf → List (List ℕ) → Scope → Ident → List ℕ → List DiagOf
 declared_diags l names c name ws =
-    fault_if (is_duplicate l c) (diagnostic (file_of l c) name.at 10 (title_of l names c ∷ []))
-    ++ (fault_if (is_package_too l c name.id (owner_scope l c)) (diagnostic (file_of l c) name.at 16 (text_of names name.id.0 ∷ []))
-    ++ (fault_if (encloses_name l name.id c) (diagnostic (file_of l c) name.at 17 (text_of names name.id.0 ∷ []))
-    ++ fault_if (has_bad_modifiers l c ws) (diagnostic (file_of l c) name.at 19 (text_of names name.id.0 ∷ []))))
+    fault_if (is_duplicate l c) (diagnostic (file_of l c) name.at DUPLICATE_TYPE (title_of l names c ∷ []))
+    ++ (fault_if (is_package_too l c name.id (owner_scope l c)) (diagnostic (file_of l c) name.at TYPE_AND_PACKAGE (text_of names name.id.0 ∷ []))
+    ++ (fault_if (encloses_name l name.id c) (diagnostic (file_of l c) name.at NAME_OF_ENCLOSING_TYPE (text_of names name.id.0 ∷ []))
+    ++ fault_if (has_bad_modifiers l c ws) (diagnostic (file_of l c) name.at MODIFIERS (text_of names name.id.0 ∷ []))))

@@ -6,6 +6,7 @@ use Rattle.sg_base.specs.Scope.{is_scope}
 use Rattle.sg_query.specs.declared.answer.Answer.{Answer}
 use Rattle.sg_query.specs.declared.answer.Answer.TheVariants.{Paths, TooMany}
 use Rattle.sg_reading.specs.Reading.{done, ask, and_then}
+use Rattle.jv_diag.specs.declared.codes.TheConstants.{DEPENDS_ON_ITSELF, TOO_MANY_PATHS}
 use Rattle.jv_diag.specs.Plain.{DiagOf, diagnostic, fault_if}
 use Rattle.jv_instance.specs.declared.datum.JavaDatum.{JavaDatum}
 use Rattle.jv_layout.specs.Folder.{LayoutOf, text_of}
@@ -39,7 +40,7 @@ dependence l c row = dependence_from l c (record { on_itself = list_any (is_scop
 -- the diagnostics of a dependence, at the type's name
 abbrev pub dependence_diags : LayoutOf → List (List ℕ) → Scope → Ident → Dependence → List DiagOf
 dependence_diags l names c name d =
-    fault_if d.on_itself (diagnostic (file_of l c) name.at 25 (title_of l names c ∷ [])) ++ fault_if d.too_many (diagnostic (file_of l c) name.at 41 (text_of names name.id.0 ∷ []))
+    fault_if d.on_itself (diagnostic (file_of l c) name.at DEPENDS_ON_ITSELF (title_of l names c ∷ [])) ++ fault_if d.too_many (diagnostic (file_of l c) name.at TOO_MANY_PATHS (text_of names name.id.0 ∷ []))
 
 -- the diagnostics of a type's dependence, by its row
 abbrev pub depends_rule : LayoutOf → List (List ℕ) → Scope → Ident → List Scope → Rule (List DiagOf)

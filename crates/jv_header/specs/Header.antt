@@ -4,6 +4,7 @@ use Rattle.std.specs.List.{list_any}
 use Rattle.sg_base.specs.declared.scope.Scope.{Scope}
 use Rattle.sg_base.specs.Scope.{is_scope}
 use Rattle.sg_reading.specs.Reading.{done, and_then, each}
+use Rattle.jv_diag.specs.declared.codes.TheConstants.{FINAL_SUPERCLASS, NO_CLASS, NO_INTERFACE, REPEATED_INTERFACE}
 use Rattle.jv_diag.specs.Plain.{DiagOf, diagnostic, fault_if}
 use Rattle.jv_layout.specs.Folder.{LayoutOf}
 use Rattle.jv_layout.specs.Readers.{file_of, is_interface_of, is_final_of, object_scope}
@@ -49,7 +50,7 @@ at_reference l names file code ids s = diagnostic file (start_of ids) code (titl
 
 -- what a class extends is no interface, and is not final
 abbrev pub superclass_diags : LayoutOf → List (List ℕ) → ℕ → List Ident → Meaning → List DiagOf
-superclass_diags l names file ids (One s) = fault_if (is_interface_of l s) (at_reference l names file 26 ids s) ++ fault_if (is_final_of l s) (at_reference l names file 28 ids s)
+superclass_diags l names file ids (One s) = fault_if (is_interface_of l s) (at_reference l names file NO_CLASS ids s) ++ fault_if (is_final_of l s) (at_reference l names file FINAL_SUPERCLASS ids s)
 superclass_diags l names file ids Nothing = []
 superclass_diags l names file ids Ambiguous = []
 superclass_diags l names file ids TooMany = []
@@ -63,7 +64,7 @@ stands_among earlier TooMany = false
 
 -- what a class implements and an interface extends is an interface, and does not stand there again
 abbrev pub interface_diags : LayoutOf → List (List ℕ) → ℕ → Bool → List Ident → Meaning → List DiagOf
-interface_diags l names file again ids (One s) = cond (is_interface_of l s) (fault_if again (at_reference l names file 29 ids s)) (at_reference l names file 27 ids s ∷ [])
+interface_diags l names file again ids (One s) = cond (is_interface_of l s) (fault_if again (at_reference l names file REPEATED_INTERFACE ids s)) (at_reference l names file NO_INTERFACE ids s ∷ [])
 interface_diags l names file again ids Nothing = []
 interface_diags l names file again ids Ambiguous = []
 interface_diags l names file again ids TooMany = []

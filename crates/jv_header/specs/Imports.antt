@@ -5,6 +5,7 @@ use Rattle.sg_base.specs.declared.scope.Scope.{Scope}
 use Rattle.sg_base.specs.Graph.{Edge}
 use Rattle.sg_base.specs.Scope.{is_scope}
 use Rattle.sg_reading.specs.Reading.{done, and_then, each}
+use Rattle.jv_diag.specs.declared.codes.TheConstants.{IMPORT_CLASHES_WITH_IMPORT, IMPORT_CLASHES_WITH_TYPE, TOO_MANY_PATHS, UNKNOWN_IMPORT}
 use Rattle.jv_diag.specs.Plain.{DiagOf, diagnostic, fault_if}
 use Rattle.jv_instance.specs.declared.labels.TheConstants.{SIMP, ODI}
 use Rattle.jv_layout.specs.Folder.{LayoutOf, text_of}
@@ -71,7 +72,7 @@ abbrev pub by_clashes : List (List ℕ) → ℕ → ImportsOf → List Ident →
 by_clashes names file w ids s own taken = record {
   singles = cond (own || taken) w.singles (w.singles ++ (last_name ids, s) ∷ []);
   on_demand = w.on_demand;
-  diags = w.diags ++ (fault_if own (at_import names file 13 ids) ++ fault_if taken (at_import names file 14 ids));
+  diags = w.diags ++ (fault_if own (at_import names file IMPORT_CLASHES_WITH_TYPE ids) ++ fault_if taken (at_import names file IMPORT_CLASHES_WITH_IMPORT ids));
 }
 
 -- a single import of a type, behind the imports so far, by the top-level types of its file
@@ -81,9 +82,9 @@ with_single l names file ds w ids s = by_clashes names file w ids s (declares ds
 -- an import by what it means
 abbrev pub with_meaning : LayoutOf → List (List ℕ) → ℕ → List TypeDeclTree → ImportsOf → ImportTree → Meaning → ImportsOf
 with_meaning l names file ds w i (One s) = cond i.all (record { singles = w.singles; on_demand = w.on_demand ++ s ∷ []; diags = w.diags }) (with_single l names file ds w i.name s)
-with_meaning l names file ds w i Nothing = record { singles = w.singles; on_demand = w.on_demand; diags = w.diags ++ diagnostic file (start_of i.name) 12 (written names i.name ∷ []) ∷ [] }
-with_meaning l names file ds w i Ambiguous = record { singles = w.singles; on_demand = w.on_demand; diags = w.diags ++ diagnostic file (start_of i.name) 12 (written names i.name ∷ []) ∷ [] }
-with_meaning l names file ds w i TooMany = record { singles = w.singles; on_demand = w.on_demand; diags = w.diags ++ diagnostic file (start_of i.name) 41 (written names i.name ∷ []) ∷ [] }
+with_meaning l names file ds w i Nothing = record { singles = w.singles; on_demand = w.on_demand; diags = w.diags ++ diagnostic file (start_of i.name) UNKNOWN_IMPORT (written names i.name ∷ []) ∷ [] }
+with_meaning l names file ds w i Ambiguous = record { singles = w.singles; on_demand = w.on_demand; diags = w.diags ++ diagnostic file (start_of i.name) UNKNOWN_IMPORT (written names i.name ∷ []) ∷ [] }
+with_meaning l names file ds w i TooMany = record { singles = w.singles; on_demand = w.on_demand; diags = w.diags ++ diagnostic file (start_of i.name) TOO_MANY_PATHS (written names i.name ∷ []) ∷ [] }
 
 -- an import: the access of its types, and what it means
 abbrev pub with_import : LayoutOf → List (List ℕ) → ℕ → List TypeDeclTree → ImportsOf → ImportTree → Reference → ImportsOf

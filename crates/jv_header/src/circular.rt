@@ -10,7 +10,7 @@ ghost use Rattle.jv_tree.specs.TypeTree.{ids_of};
 ghost use Rattle.jv_header.specs.Header.{header_rule};
 ghost use Rattle.jv_header.specs.Circular.{is_missing, IsCircular, IsFirstOpen, IsHeaderOpen, IsLeast, IsOpenOrRead, IsOpenStart, NeedsSome, references_of};
 
-use jv_diag::{Diag, diag};
+use jv_diag::{Diag, codes, diag};
 use jv_instance::JavaPred;
 use jv_layout::Layout;
 use jv_names::{Oracle, Reference, Spot, read_reference, start_of};
@@ -126,7 +126,7 @@ pub fn circular_line(
         alloc,
         l.file_of(ty),
         at,
-        30,
+        codes::WAITING_HEADER,
         &[own.as_str(), other.as_str()],
     )
 }

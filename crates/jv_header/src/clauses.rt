@@ -9,7 +9,7 @@ ghost use Rattle.jv_layout.specs.Readers.{file_of};
 ghost use Rattle.jv_tree.specs.TypeTree.{ids_of};
 ghost use Rattle.jv_header.specs.Header.{one_of, at_reference, superclass_diags, stands_among, interface_diags, class_clause, interface_clause, extends_diags};
 
-use jv_diag::DiagList;
+use jv_diag::{DiagList, codes};
 use jv_layout::Layout;
 use jv_names::{Meaning, Reference, add_reference, start_of};
 use jv_tree::{Ident, Name, Names};
@@ -49,10 +49,19 @@ fn add_superclass(
 {
     if let Meaning::One(s) = meaning {
         if l.is_interface(s) {
-            add_at(alloc, diags, l, names, file, 26, ids, s)?;
+            add_at(alloc, diags, l, names, file, codes::NO_CLASS, ids, s)?;
         }
         if l.is_final(s) {
-            add_at(alloc, diags, l, names, file, 28, ids, s)?;
+            add_at(
+                alloc,
+                diags,
+                l,
+                names,
+                file,
+                codes::FINAL_SUPERCLASS,
+                ids,
+                s,
+            )?;
         }
     }
     Ok(())
@@ -74,9 +83,18 @@ fn add_interface(
     match meaning {
         Meaning::One(s) => {
             if !l.is_interface(s) {
-                add_at(alloc, diags, l, names, file, 27, ids, s)
+                add_at(alloc, diags, l, names, file, codes::NO_INTERFACE, ids, s)
             } else if again {
-                add_at(alloc, diags, l, names, file, 29, ids, s)
+                add_at(
+                    alloc,
+                    diags,
+                    l,
+                    names,
+                    file,
+                    codes::REPEATED_INTERFACE,
+                    ids,
+                    s,
+                )
             } else {
                 Ok(())
             }

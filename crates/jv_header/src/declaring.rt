@@ -9,7 +9,7 @@ ghost use Rattle.jv_layout.specs.Titles.{title_of};
 ghost use Rattle.jv_layout.specs.Words.{has_other};
 ghost use Rattle.jv_header.specs.Declaration.{encloses_name, is_package_too, of_types, is_static_in_inner, has_bad_modifiers, declared_diags};
 
-use jv_diag::DiagList;
+use jv_diag::{DiagList, codes};
 use jv_layout::words::{
     ABSTRACT, FINAL, PRIVATE, PROTECTED, PUBLIC, STATIC, has_other, has_repeat, has_two_accesses,
     is_written,
@@ -121,7 +121,13 @@ fn add_duplicate(
 {
     if fault {
         let title = l.title(alloc, names, ty)?;
-        diags.add(alloc, l.file_of(ty), name.at, 10, &[title.as_str()])?;
+        diags.add(
+            alloc,
+            l.file_of(ty),
+            name.at,
+            codes::DUPLICATE_TYPE,
+            &[title.as_str()],
+        )?;
     }
     Ok(())
 }
@@ -153,9 +159,6 @@ pub fn declared_diags(
         declarations.is_duplicate(l, ty),
     )?;
     let package_too = is_package_too(l, declarations, name.id, ty);
-    add_if(alloc, &mut diags, l, names, ty, name, 16, package_too)?;
-    let enclosed = encloses_name(alloc, l, name.id, ty)?;
-    add_if(alloc, &mut diags, l, names, ty, name, 17, enclosed)?;
     add_if(
         alloc,
         &mut diags,
@@ -163,7 +166,28 @@ pub fn declared_diags(
         names,
         ty,
         name,
-        19,
+        codes::TYPE_AND_PACKAGE,
+        package_too,
+    )?;
+    let enclosed = encloses_name(alloc, l, name.id, ty)?;
+    add_if(
+        alloc,
+        &mut diags,
+        l,
+        names,
+        ty,
+        name,
+        codes::NAME_OF_ENCLOSING_TYPE,
+        enclosed,
+    )?;
+    add_if(
+        alloc,
+        &mut diags,
+        l,
+        names,
+        ty,
+        name,
+        codes::MODIFIERS,
         has_bad_modifiers(l, ty, words),
     )?;
     Ok(diags)

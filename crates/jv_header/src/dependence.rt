@@ -12,7 +12,7 @@ ghost use Rattle.jv_header.specs.Results.{LacksReply};
 
 use crate::begun_dependence::BegunDependence;
 use crate::dependence_progress::DependenceProgress;
-use jv_diag::DiagList;
+use jv_diag::{DiagList, codes};
 use jv_instance::{JavaDatum, JavaPred};
 use jv_layout::{Layout, text_of};
 use jv_names::{Counts, Oracle, for_any, has_end, kinds};
@@ -114,10 +114,22 @@ fn dependence_diags(
     let file = l.file_of(ty);
     if found.on_itself {
         let title = l.title(alloc, names, ty)?;
-        diags.add(alloc, file, name.at, 25, &[title.as_str()])?;
+        diags.add(
+            alloc,
+            file,
+            name.at,
+            codes::DEPENDS_ON_ITSELF,
+            &[title.as_str()],
+        )?;
     }
     if found.too_many {
-        diags.add(alloc, file, name.at, 41, &[text_of(names, name.id)])?;
+        diags.add(
+            alloc,
+            file,
+            name.at,
+            codes::TOO_MANY_PATHS,
+            &[text_of(names, name.id)],
+        )?;
     }
     Ok(diags)
 }

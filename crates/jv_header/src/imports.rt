@@ -22,7 +22,7 @@ use crate::clashes::{bring, is_own, is_taken, last_name, own_names};
 use crate::file_imports::FileImports;
 use crate::imports_progress::ImportsProgress;
 use crate::references::References;
-use jv_diag::DiagList;
+use jv_diag::{DiagList, codes};
 use jv_instance::JavaPred;
 use jv_layout::{Layout, text_of};
 use jv_names::{
@@ -152,7 +152,13 @@ fn add_access(
 {
     for ty in types {
         let title = l.title(alloc, names, *ty)?;
-        diags.add(alloc, file, start_of(ids), 22, &[title.as_str()])?;
+        diags.add(
+            alloc,
+            file,
+            start_of(ids),
+            codes::INACCESSIBLE_TYPE,
+            &[title.as_str()],
+        )?;
     }
     Ok(())
 }
@@ -170,10 +176,24 @@ fn add_clashes(
     ensures { OnOk result (diags.new ≡ diags.old ++ (fault_if hides_own (at_import names.now file 13 ids.now) ++ fault_if taken (at_import names.now file 14 ids.now))) }
 {
     if hides_own {
-        add_at_import(alloc, diags, names, file, 13, ids)?;
+        add_at_import(
+            alloc,
+            diags,
+            names,
+            file,
+            codes::IMPORT_CLASHES_WITH_TYPE,
+            ids,
+        )?;
     }
     if taken {
-        add_at_import(alloc, diags, names, file, 14, ids)?;
+        add_at_import(
+            alloc,
+            diags,
+            names,
+            file,
+            codes::IMPORT_CLASHES_WITH_IMPORT,
+            ids,
+        )?;
     }
     Ok(())
 }
@@ -281,8 +301,15 @@ fn add_meaning(
                 add_single(alloc, l, names, file, unit, own, brought, w, ids, s)
             }
         }
-        Meaning::TooMany => add_written(alloc, &mut w.diags, names, file, 41, ids),
-        _ => add_written(alloc, &mut w.diags, names, file, 12, ids),
+        Meaning::TooMany => add_written(
+            alloc,
+            &mut w.diags,
+            names,
+            file,
+            codes::TOO_MANY_PATHS,
+            ids,
+        ),
+        _ => add_written(alloc, &mut w.diags, names, file, codes::UNKNOWN_IMPORT, ids),
     }
 }
 

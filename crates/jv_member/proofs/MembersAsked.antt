@@ -8,6 +8,7 @@ use Rattle.sg_query.specs.declared.query.Query.{Query}
 use Rattle.sg_reading.specs.Reading.{done, AllAsked, AllEnds, and_then, each}
 use Rattle.sg_reading.proofs.Asking.{AllAsked-more, AllEnds-more, and_then-asked, and_then-asked_where, each-asked, each-ends}
 use Rattle.sg_state.specs.Held.{put}
+use Rattle.jv_diag.specs.declared.codes.TheConstants.{OTHER_RESULT, OVERLOADED, OVERRIDES_FINAL, STATIC_AND_INSTANCE, WEAKER_ACCESS}
 use Rattle.jv_instance.specs.declared.labels.TheConstants.{METH, CTOR}
 use Rattle.jv_instance.specs.declared.pred.JavaPred.{JavaPred}
 use Rattle.jv_instance.specs.declared.ty.Ty.{Ty}
@@ -26,20 +27,19 @@ use Rattle.jv_names.specs.declared.kinds.TheConstants.{METHODS, ABOVE}
 use Rattle.jv_names.specs.Access.{member_accessible}
 use Rattle.jv_names.specs.Bodies.{member_bodies}
 use Rattle.jv_names.specs.Bounds.{IsNameQuery, IsListed, IsTypeScope, IsTyIn, IsReadIn, IsMemberScope, EndsOnly}
-use Rattle.jv_names.specs.Chosen.{first_concrete, fits_all}
-use Rattle.jv_names.specs.Ends.{answer_ends}
+use Rattle.jv_names.specs.Chosen.{fits_all}
 use Rattle.jv_names.specs.Instances.{instance_bodies, has_enclosing}
-use Rattle.jv_names.specs.Members.{find_ends, is_method_named, object_methods}
+use Rattle.jv_names.specs.Members.{find_ends, is_method_named, members_among, object_methods}
 use Rattle.jv_names.specs.Replies.{Rule, for_any, for_name}
 use Rattle.jv_names.specs.Superclass.{superclass}
-use Rattle.jv_names.proofs.Bounds.{answer_ends_sought, bodies_are_types, member_accessible_stays}
+use Rattle.jv_names.proofs.Bounds.{answer_ends_sought, bodies_are_types, member_accessible_stays, members_among_stay_in}
 use Rattle.jv_names.proofs.Listed.{member_is_listed, members_listed, type_is_listed}
 use Rattle.jv_names.proofs.ReadBounds.{Asked, signature_given, ctor_found, name_asked, cond_asked, signature_asks, find_asks, ctor_asks, fits_all_asks, result_asks, superclass_asks, superclass_found, enclosing_asks, instance_bodies_are_types}
 use Rattle.jv_member.specs.Bounds.{IsNumberedOwn, MembersAskInLayout}
 use Rattle.jv_member.specs.Constructors.{call_at, call_diags, call_of, calls_at, can_call, ctor_rule, only_class, takes_some}
 use Rattle.jv_member.specs.Declaration.{joined}
 use Rattle.jv_member.specs.Members.{Placed, check_by, member_calls, member_overrides, overrides, placed}
-use Rattle.jv_member.specs.Overriding.{against, all_groups, code_diags, concrete_codes, declares_one, group_rule, groups_of, inherited_rule, is_other, is_weaker, meeting, meeting_code, meeting_codes, meets, met_codes, method_rule, on_whole, overriding, overriding_code, params_differ, results_of, signature_among, some_fits, static_differs, weaker_or_other, whole_methods, with_objects}
+use Rattle.jv_member.specs.Overriding.{against, all_groups, code_diags, concrete_codes, declares_one, default_codes, first_concrete, group_diags, group_rule, groups_of, inherited_rule, is_other, is_weaker, meeting, meeting_code, meeting_codes, meets, met_codes, method_rule, on_whole, overriding, overriding_code, params_differ, results_of, signature_among, some_fits, static_differs, weaker_or_other, whole_methods, with_objects}
 use Rattle.jv_member.specs.Own.{OwnMember, own_field, own_method, own_ctor, default_ctor, own_members}
 use Rattle.jv_names.specs.Read.{SignatureOf, ctor_of, is_whole, result_fits, same_types, signature_of}
 use Rattle.jv_member.proofs.Bounds.{own_members_are_numbered}
@@ -67,9 +67,9 @@ module _ (l : LayoutOf) where
   listed_ends (Scopes ss) h = All-weaker (IsMemberScope l METH) (IsListed l) (member_is_listed l METH) ss h
   listed_ends TooManyEnds h = tt
 
-  methods_found : (q : Query JavaPred) → AllEnds (EndsOnly (IsListed l)) (find_ends l Methods q)
+  methods_found : (q : Query JavaPred) → AllEnds (EndsOnly (IsMemberScope l METH)) (find_ends l Methods q)
   unfolding find_ends
-  methods_found q = λ a. listed_ends (answer_ends l Methods a) (answer_ends_sought l Methods a)
+  methods_found q = λ a. answer_ends_sought l Methods a
 
   -- and so is a constructor
   listed_ctor : (o : Option Scope) → IfSome o (IsMemberScope l CTOR) → IfSome o (IsListed l)
@@ -110,16 +110,16 @@ module _ (l : LayoutOf) (count : ℕ) where
 
   weaker_asks : (m k : Scope) (a b : SignatureOf) → IsTyIn l a.result → AllAsked (Asked l count) (weaker_or_other l m k a b)
   weaker_asks m k a b h =
-      cond_asked l count (is_weaker l m k) (done (Some 33)) (and_then (result_fits l a.result b.result) (λ ok. done (cond ok None (Some 34)))) tt
-      (and_then-asked (Asked l count) (result_fits l a.result b.result) (λ ok. done (cond ok None (Some 34))) (result_asks l count a.result b.result h) (λ ok. tt))
+      cond_asked l count (is_weaker l m k) (done (Some WEAKER_ACCESS)) (and_then (result_fits l a.result b.result) (λ ok. done (cond ok None (Some OTHER_RESULT)))) tt
+      (and_then-asked (Asked l count) (result_fits l a.result b.result) (λ ok. done (cond ok None (Some OTHER_RESULT))) (result_asks l count a.result b.result h) (λ ok. tt))
 
   overriding_code_asks : (m k : Scope) (a b : SignatureOf) → IsTyIn l a.result → AllAsked (Asked l count) (overriding_code l m k a b)
   overriding_code_asks m k a b h =
-      cond_asked l count (not (same_types a.params b.params)) (done (Some 36)) _ tt
-      (cond_asked l count (static_differs l m k) (done (Some 31)) _ tt (cond_asked l count (is_final_of l k) (done (Some 32)) (weaker_or_other l m k a b) tt (weaker_asks m k a b h)))
+      cond_asked l count (not (same_types a.params b.params)) (done (Some OVERLOADED)) _ tt
+      (cond_asked l count (static_differs l m k) (done (Some STATIC_AND_INSTANCE)) _ tt (cond_asked l count (is_final_of l k) (done (Some OVERRIDES_FINAL)) (weaker_or_other l m k a b) tt (weaker_asks m k a b h)))
 
   meeting_code_asks : (m k : Scope) (a b : SignatureOf) → IsTyIn l a.result → AllAsked (Asked l count) (meeting_code l m k a b)
-  meeting_code_asks m k a b h = cond_asked l count (static_differs l m k) (done (Some 31)) (weaker_or_other l m k a b) tt (weaker_asks m k a b h)
+  meeting_code_asks m k a b h = cond_asked l count (static_differs l m k) (done (Some STATIC_AND_INSTANCE)) (weaker_or_other l m k a b) tt (weaker_asks m k a b h)
 
   on_whole_asks : (a b : Option SignatureOf) (f : SignatureOf → SignatureOf → Rule (Option ℕ)) → IsGivenIn l a → ((x y : SignatureOf) → IsTyIn l x.result → AllAsked (Asked l count) (f x y)) → AllAsked (Asked l count) (on_whole a b f)
   on_whole_asks None b f h k = tt
@@ -152,10 +152,10 @@ module _ (l : LayoutOf) (count : ℕ) where
   method_rule_asks : (names : List (List ℕ)) (c : Scope) (type : Ident) (m : Scope) (i : Ident) → IsTypeScope l c → IsListed l m → i.id.0 < count → AllAsked (Asked l count) (method_rule l names c type m i)
   unfolding method_rule
   method_rule_asks names c type m i is h numbered =
-      and_then-asked_where (Asked l count) (EndsOnly (IsListed l)) (find_ends l Methods (for_name ABOVE c i.id)) (against l names c type m i)
+      and_then-asked_where (Asked l count) (EndsOnly (IsMemberScope l METH)) (find_ends l Methods (for_name ABOVE c i.id)) (against l names c type m i)
       (find_asks l count Methods (for_name ABOVE c i.id) (record { start = type_is_listed l c is; kind = omega arith; pred = numbered }))
       (methods_found l (for_name ABOVE c i.id))
-      (λ e found. against_asks names c type m i e h found)
+      (λ e found. against_asks names c type m i e h (listed_ends l e found))
 
   -- ---- methods that meet
 
@@ -169,42 +169,50 @@ module _ (l : LayoutOf) (count : ℕ) where
   concrete_asks m None ws h = tt
   concrete_asks m (Some s) ws h = each-asked (Asked l count) (meets l m s) (filter (is_other m) ws) (λ w c. meeting_code_asks m w.0 s w.1 h)
 
-  met_asks : (ms : List Scope) (o : Option Scope) (ws : List (Scope × SignatureOf)) → All (HasFit l) ws → AllAsked (Asked l count) (met_codes l ms o ws)
-  met_asks ms None ws h =
-      cond_asked l count _ (and_then (some_fits l (results_of ws) (results_of ws)) (λ ok. done (cond ok [] (Some 34 ∷ [])))) (done [])
-      (and_then-asked (Asked l count) (some_fits l (results_of ws) (results_of ws)) (λ ok. done (cond ok [] (Some 34 ∷ []))) (some_asks (results_of ws) (results_of ws) (All-map (IsTyIn l) (λ w. w.1.result) ws h)) (λ ok. tt)) tt
-  met_asks ms (Some m) ws h = concrete_asks m (signature_among m ws) ws (among_given l m ws h)
+  met_asks : (ms members : List Scope) (o : Option Scope) (ws : List (Scope × SignatureOf)) → All (HasFit l) ws → AllAsked (Asked l count) (met_codes l ms members o ws)
+  met_asks ms members None ws h =
+      cond_asked l count _ (and_then (some_fits l (results_of ws) (results_of ws)) (λ ok. done (cond ok (default_codes l members) (Some OTHER_RESULT ∷ [])))) (done (default_codes l members))
+      (and_then-asked (Asked l count) (some_fits l (results_of ws) (results_of ws)) (λ ok. done (cond ok (default_codes l members) (Some OTHER_RESULT ∷ []))) (some_asks (results_of ws) (results_of ws) (All-map (IsTyIn l) (λ w. w.1.result) ws h)) (λ ok. tt)) tt
+  met_asks ms members (Some m) ws h = concrete_asks m (signature_among m ws) ws (among_given l m ws h)
 
-  meeting_asks : (c : Scope) (ms : List Scope) → All (IsListed l) ms → AllAsked (Asked l count) (meeting l c ms)
+  meeting_asks : (c : Scope) (ms members : List Scope) → All (IsListed l) ms → AllAsked (Asked l count) (meeting l c ms members)
   unfolding meeting
-  meeting_asks c ms h =
-      cond_asked l count (declares_one l c ms || nat_lt (length ms) 2) (done []) (and_then (each (signature_of l) ms) (λ ss. meeting_codes l ms (whole_methods ms ss))) tt
-      (and_then-asked_where (Asked l count) (λ ss. (o : Option SignatureOf) → Contains ss o → IsGivenIn l o) (each (signature_of l) ms) (λ ss. meeting_codes l ms (whole_methods ms ss))
+  meeting_asks c ms members h =
+      cond_asked l count (declares_one l c ms || nat_lt (length ms) 2) (done []) (and_then (each (signature_of l) ms) (λ ss. meeting_codes l ms members (whole_methods ms ss))) tt
+      (and_then-asked_where (Asked l count) (λ ss. (o : Option SignatureOf) → Contains ss o → IsGivenIn l o) (each (signature_of l) ms) (λ ss. meeting_codes l ms members (whole_methods ms ss))
       (each-asked (Asked l count) (signature_of l) ms (λ m k. signature_asks l count m (All-contains (IsListed l) ms m h k)))
       (each-ends (IsGivenIn l) (signature_of l) ms (λ m k. result_given l m))
-      (λ ss given. cond_asked l count (params_differ (whole_methods ms ss)) (done (Some 36 ∷ [])) (met_codes l ms (first_concrete l ms) (whole_methods ms ss)) tt
-      (met_asks ms (first_concrete l ms) (whole_methods ms ss) (whole_fit l ms ss (All-weaker (Contains ss) (IsGivenIn l) given ss (All-contains_itself ss))))))
+      (λ ss given. cond_asked l count (params_differ (whole_methods ms ss)) (done (Some OVERLOADED ∷ [])) (met_codes l ms members (first_concrete l ms) (whole_methods ms ss)) tt
+      (met_asks ms members (first_concrete l ms) (whole_methods ms ss) (whole_fit l ms ss (All-weaker (Contains ss) (IsGivenIn l) given ss (All-contains_itself ss))))))
 
   all_methods_ask : (c : Scope) → IsTypeScope l c → AllAsked (Asked l count) (find_ends l Methods (for_any METHODS c))
   all_methods_ask c is = find_asks l count Methods (for_any METHODS c) (record { start = type_is_listed l c is; kind = omega arith; pred = tt })
 
   module _ (names : List (List ℕ)) (c : Scope) (type : Ident) where
-    group_asks : (g : NameId × List Scope) → All (IsListed l) g.1 → AllAsked (Asked l count) (group_rule l names c type g)
-    unfolding group_rule
-    group_asks g h = and_then-asked (Asked l count) (meeting l c g.1) _ (meeting_asks c g.1 h) (λ codes. tt)
+    -- a scope is a method
+    abbrev IsMethod : Scope → Type 0
+    IsMethod = IsMemberScope l METH
 
-    groups_ask : (e : Ends) → EndsOnly (IsListed l) e → AllAsked (Asked l count) (all_groups l names c type e)
-    groups_ask TooManyEnds h = tt
-    groups_ask (Scopes ms) h =
+    group_asks : IsLinked l → (g : NameId × List Scope) → All IsMethod g.1 → AllAsked (Asked l count) (group_rule l names c type g)
+    unfolding group_rule
+    group_asks linked g h =
+        and_then-asked (Asked l count) (members_among l g.1) (λ members. and_then (meeting l c g.1 members) (λ codes. done (group_diags l names c type g.0 members codes)))
+        (AllAsked-more (IsNameQuery l count) (Asked l count) (members_among l g.1) (name_asked l count) (members_among_stay_in l count g.1 linked h).asks)
+        (λ members. and_then-asked (Asked l count) (meeting l c g.1 members) (λ codes. done (group_diags l names c type g.0 members codes))
+        (meeting_asks c g.1 members (All-weaker IsMethod (IsListed l) (member_is_listed l METH) g.1 h)) (λ codes. tt))
+
+    groups_ask : IsLinked l → (e : Ends) → EndsOnly IsMethod e → AllAsked (Asked l count) (all_groups l names c type e)
+    groups_ask linked TooManyEnds h = tt
+    groups_ask linked (Scopes ms) h =
         and_then-asked (Asked l count) (each (group_rule l names c type) (groups_of l ms)) (λ ds. done (joined ds))
-        (each-asked (Asked l count) (group_rule l names c type) (groups_of l ms) (λ g k. group_asks g (All-contains (IsGrouped (IsListed l) l) (groups_of l ms) g (groups_all (IsListed l) l ms [] (All-nil (IsGrouped (IsListed l) l)) h) k)))
+        (each-asked (Asked l count) (group_rule l names c type) (groups_of l ms) (λ g k. group_asks linked g (All-contains (IsGrouped IsMethod l) (groups_of l ms) g (groups_all IsMethod l ms [] (All-nil (IsGrouped IsMethod l)) h) k)))
         (λ ds. tt)
 
-    pub inherited_asks : IsTypeScope l c → AllAsked (Asked l count) (inherited_rule l names c type)
+    pub inherited_asks : IsLinked l → IsTypeScope l c → AllAsked (Asked l count) (inherited_rule l names c type)
     unfolding inherited_rule
-    inherited_asks is =
-        and_then-asked_where (Asked l count) (EndsOnly (IsListed l)) (find_ends l Methods (for_any METHODS c)) (all_groups l names c type)
-        (all_methods_ask c is) (methods_found l (for_any METHODS c)) groups_ask
+    inherited_asks linked is =
+        and_then-asked_where (Asked l count) (EndsOnly IsMethod) (find_ends l Methods (for_any METHODS c)) (all_groups l names c type)
+        (all_methods_ask c is) (methods_found l (for_any METHODS c)) (groups_ask linked)
 
   -- ---- constructors
 
@@ -261,10 +269,10 @@ module _ (l : LayoutOf) (count : ℕ) where
 
       check_asks : (type : Ident) (ps : List Placed) → All IsPlacedIn ps → AllAsked (Asked l count) (check_by l names c type extends ps)
       check_asks type ps h =
-          and_then-asked_where (Asked l count) (EndsOnly (IsListed l)) (find_ends l Methods (for_any METHODS c)) _ (all_methods_ask c is) (methods_found l (for_any METHODS c))
+          and_then-asked_where (Asked l count) (EndsOnly (IsMemberScope l METH)) (find_ends l Methods (for_any METHODS c)) _ (all_methods_ask c is) (methods_found l (for_any METHODS c))
           (λ ends found. and_then-asked (Asked l count) (each (member_overrides l names c type) ps) _
           (each-asked (Asked l count) (member_overrides l names c type) ps (λ p k. let q = All-contains IsPlacedIn ps p h k in overrides_ask type p.0 p.1 q.0 q.1))
-          (λ overs. and_then-asked (Asked l count) (all_groups l names c type ends) _ (groups_ask names c type ends found)
+          (λ overs. and_then-asked (Asked l count) (all_groups l names c type ends) _ (groups_ask names c type linked ends found)
           (λ meets. and_then-asked (Asked l count) (each (member_calls l names c extends) ps) _ (each-asked (Asked l count) (member_calls l names c extends) ps (λ p k. ctor_rule_asks p.1)) (λ calls. tt))))
 
 -- ---- as a law

@@ -3,6 +3,7 @@ use Rattle.std.specs.Prelude.{ℕ, not, Bool, true, false, cond, List, [], ◌�
 use Rattle.sg_base.specs.declared.scope.Scope.{Scope}
 use Rattle.sg_base.specs.Scope.{is_scope}
 use Rattle.sg_reading.specs.Reading.{done, and_then}
+use Rattle.jv_diag.specs.declared.codes.TheConstants.{NO_CONSTRUCTOR, NO_ENCLOSING_INSTANCE}
 use Rattle.jv_diag.specs.Plain.{DiagOf, diagnostic, fault_if}
 use Rattle.jv_layout.specs.Folder.{LayoutOf}
 use Rattle.jv_layout.specs.Readers.{file_of, is_interface_of, object_scope, owner_scope}
@@ -34,7 +35,7 @@ can_call l c (Some k) =
 
 -- the diagnostics of a call that is not possible, or lacks its enclosing instance
 abbrev pub call_faults : LayoutOf → List (List ℕ) → Scope → ℕ → Scope → Bool → Bool → List DiagOf
-call_faults l names c at s called enclosed = fault_if (not called) (titled_diag l names c 38 at s) ++ fault_if (not enclosed) (titled_diag l names c 57 at s)
+call_faults l names c at s called enclosed = fault_if (not called) (titled_diag l names c NO_CONSTRUCTOR at s) ++ fault_if (not enclosed) (titled_diag l names c NO_ENCLOSING_INSTANCE at s)
 
 -- the diagnostics of the call of the superclass's constructor at a place
 unfoldable pub call_diags : LayoutOf → List (List ℕ) → Scope → ℕ → Scope → Rule (List DiagOf)

@@ -1,4 +1,4 @@
--- What overrides what, and which methods meet (JLS 8.4.8, 9.4.1, 8.1.1.1).
+-- What overrides what, and which methods meet (JLS 8.4.8, 9.4.1, 8.1.1.1, 8.4.8.4, 9.4.1.3).
 use Rattle.std.specs.Prelude.{ℕ, ◌==◌, ◌&&◌, ◌||◌, not, nat_lt, Bool, true, false, cond, List, [], ◌∷◌, ◌++◌, length, fold, map, Option, None, Some}
 use Rattle.std.specs.List.{filter, list_any, list_all}
 use Rattle.std.specs.Map.{lookup}
@@ -7,21 +7,22 @@ use Rattle.sg_base.specs.declared.scope.Scope.{Scope}
 use Rattle.sg_base.specs.Scope.{is_scope, scope_cmp}
 use Rattle.sg_reading.specs.Reading.{done, and_then, each}
 use Rattle.sg_state.specs.Held.{put}
+use Rattle.jv_diag.specs.declared.codes.TheConstants.{DEFAULTS_MEET, OTHER_RESULT, OVERLOADED, OVERRIDES_FINAL, STATIC_AND_INSTANCE, TOO_MANY_PATHS, UNIMPLEMENTED, WEAKER_ACCESS}
 use Rattle.jv_diag.specs.Plain.{DiagOf, diagnostic, fault_if}
 use Rattle.jv_instance.specs.declared.access.Access.{Access}
 use Rattle.jv_instance.specs.declared.access.Access.TheVariants.{Public, Protected, Package, Private}
 use Rattle.jv_instance.specs.declared.ty.Ty.{Ty}
 use Rattle.jv_layout.specs.Duplicates.{simple_name}
 use Rattle.jv_layout.specs.Folder.{LayoutOf, text_of}
-use Rattle.jv_layout.specs.Readers.{access_of, file_of, is_abstract_of, is_final_of, is_interface_of, is_static_of, owner_scope}
+use Rattle.jv_layout.specs.Readers.{access_of, file_of, is_abstract_of, is_default_of, is_final_of, is_interface_method_of, is_interface_of, is_static_of, owner_scope}
 use Rattle.jv_tree.specs.declared.name.Ident.{Ident}
 use Rattle.jv_tree.specs.declared.names.NameId.{NameId}
 use Rattle.jv_names.specs.declared.counts.Counts.TheVariants.{Methods}
 use Rattle.jv_names.specs.declared.ends.Ends.{Ends}
 use Rattle.jv_names.specs.declared.ends.Ends.TheVariants.{Scopes, TooMany}
 use Rattle.jv_names.specs.declared.kinds.TheConstants.{METHODS, ABOVE}
-use Rattle.jv_names.specs.Chosen.{first_concrete, fits_all}
-use Rattle.jv_names.specs.Members.{find_ends, object_methods}
+use Rattle.jv_names.specs.Chosen.{fits_all}
+use Rattle.jv_names.specs.Members.{find_ends, members_among, object_methods}
 use Rattle.jv_names.specs.Read.{SignatureOf, signature_of, is_whole, same_types, result_fits}
 use Rattle.jv_names.specs.Replies.{Rule, for_any, for_name}
 use Rattle.jv_member.specs.Declaration.{joined}
@@ -49,18 +50,18 @@ static_differs l m k = cond (is_static_of l m) (not (is_static_of l k)) (is_stat
 
 -- the first of two methods has weaker access, or a result that does not fit that of the second
 abbrev pub weaker_or_other : LayoutOf → Scope → Scope → SignatureOf → SignatureOf → Rule (Option ℕ)
-weaker_or_other l m k a b = cond (is_weaker l m k) (done (Some 33)) (and_then (result_fits l a.result b.result) (λ ok. done (cond ok None (Some 34))))
+weaker_or_other l m k a b = cond (is_weaker l m k) (done (Some WEAKER_ACCESS)) (and_then (result_fits l a.result b.result) (λ ok. done (cond ok None (Some OTHER_RESULT))))
 
 -- what is wrong where the first method is declared over the second: other parameters, one of the two is static, the second is final, weaker access,
 -- another result; the first that holds
 abbrev pub overriding_code : LayoutOf → Scope → Scope → SignatureOf → SignatureOf → Rule (Option ℕ)
 overriding_code l m k a b =
-    cond (not (same_types a.params b.params)) (done (Some 36))
-    (cond (static_differs l m k) (done (Some 31)) (cond (is_final_of l k) (done (Some 32)) (weaker_or_other l m k a b)))
+    cond (not (same_types a.params b.params)) (done (Some OVERLOADED))
+    (cond (static_differs l m k) (done (Some STATIC_AND_INSTANCE)) (cond (is_final_of l k) (done (Some OVERRIDES_FINAL)) (weaker_or_other l m k a b)))
 
 -- what is wrong where both are inherited and the first stands for both
 abbrev pub meeting_code : LayoutOf → Scope → Scope → SignatureOf → SignatureOf → Rule (Option ℕ)
-meeting_code l m k a b = cond (static_differs l m k) (done (Some 31)) (weaker_or_other l m k a b)
+meeting_code l m k a b = cond (static_differs l m k) (done (Some STATIC_AND_INSTANCE)) (weaker_or_other l m k a b)
 
 -- two signatures without bad types are compared, and others are passed over
 abbrev pub on_whole : Option SignatureOf → Option SignatureOf → (SignatureOf → SignatureOf → Rule (Option ℕ)) → Rule (Option ℕ)
@@ -86,7 +87,7 @@ with_objects l c n ks = cond (is_interface_of l c) (fold (put scope_cmp) ks (obj
 
 -- the diagnostics of a method against what it is declared over; too many paths stand at the type's name
 abbrev pub against : LayoutOf → List (List ℕ) → Scope → Ident → Scope → Ident → Ends → Rule (List DiagOf)
-against l names c type m i TooMany = done (named_diag l names c 41 type type.id ∷ [])
+against l names c type m i TooMany = done (named_diag l names c TOO_MANY_PATHS type type.id ∷ [])
 against l names c type m i (Scopes ks) = and_then (each (overriding l m) (with_objects l c i.id ks)) (λ codes. done (code_diags l names c i i.id codes))
 
 -- the diagnostics of a method of a type against the methods of its name above the type
@@ -134,6 +135,23 @@ is_owner c (Some d) = is_scope c d
 abbrev pub declares_one : LayoutOf → Scope → List Scope → Bool
 declares_one l c ms = list_any (λ m. is_owner c (owner_scope l m)) ms
 
+-- the first method that a class declares and that is not abstract
+abbrev pub first_concrete : LayoutOf → List Scope → Option Scope
+first_concrete l [] = None
+first_concrete l (m ∷ ms) = cond (is_abstract_of l m || is_interface_method_of l m) (first_concrete l ms) (Some m)
+
+-- an abstract method that a class declares
+abbrev pub is_abstract_of_class : LayoutOf → Scope → Bool
+is_abstract_of_class l m = is_abstract_of l m && not (is_interface_method_of l m)
+
+-- a default method and another one are members, and none of them is an abstract one of a class
+abbrev pub meets_default : LayoutOf → List Scope → Bool
+meets_default l ms = list_any (is_default_of l) ms && (not (nat_lt (length ms) 2) && not (list_any (is_abstract_of_class l) ms))
+
+-- the code of default methods that meet
+abbrev pub default_codes : LayoutOf → List Scope → List (Option ℕ)
+default_codes l members = cond (meets_default l members) (Some DEFAULTS_MEET ∷ []) []
+
 -- the methods whose signatures have no bad type
 abbrev pub whole_methods : List Scope → List (Option SignatureOf) → List (Scope × SignatureOf)
 whole_methods [] ss = []
@@ -159,7 +177,7 @@ meets l m s w = meeting_code l m w.0 s w.1
 abbrev pub is_other : Scope → Scope × SignatureOf → Bool
 is_other m w = not (is_scope m w.0)
 
--- a method that is not abstract stands for all others
+-- a method of a class that is not abstract stands for all others
 abbrev pub concrete_codes : LayoutOf → Scope → Option SignatureOf → List (Scope × SignatureOf) → Rule (List (Option ℕ))
 concrete_codes l m None ws = done []
 concrete_codes l m (Some s) ws = each (meets l m s) (filter (is_other m) ws)
@@ -173,38 +191,46 @@ abbrev pub some_fits : LayoutOf → List Ty → List Ty → Rule Bool
 some_fits l all [] = done false
 some_fits l all (t ∷ ts) = and_then (fits_all l t all) (λ ok. cond ok (done true) (some_fits l all ts))
 
--- abstract methods alone: where no signature has a bad type, the result of one of them fits all others
-abbrev pub abstract_codes : LayoutOf → List Scope → List (Scope × SignatureOf) → Rule (List (Option ℕ))
-abstract_codes l ms ws = cond (length ws == length ms) (and_then (some_fits l (results_of ws) (results_of ws)) (λ ok. done (cond ok [] (Some 34 ∷ [])))) (done [])
+-- no method of a class stands for all: where no signature has a bad type, the result of one of them has to fit all others; where nothing is wrong with
+-- results, default methods may meet
+abbrev pub abstract_codes : LayoutOf → List Scope → List Scope → List (Scope × SignatureOf) → Rule (List (Option ℕ))
+abstract_codes l ms members ws =
+    cond (length ws == length ms) (and_then (some_fits l (results_of ws) (results_of ws)) (λ ok. done (cond ok (default_codes l members) (Some OTHER_RESULT ∷ [])))) (done (default_codes l members))
 
--- what is wrong with methods that meet, by the first that is not abstract; where there is none, all are abstract
-abbrev pub met_codes : LayoutOf → List Scope → Option Scope → List (Scope × SignatureOf) → Rule (List (Option ℕ))
-met_codes l ms None ws = abstract_codes l ms ws
-met_codes l ms (Some m) ws = concrete_codes l m (signature_among m ws) ws
+-- what is wrong with methods that meet, by the first of a class that is not abstract, where there is one
+abbrev pub met_codes : LayoutOf → List Scope → List Scope → Option Scope → List (Scope × SignatureOf) → Rule (List (Option ℕ))
+met_codes l ms members None ws = abstract_codes l ms members ws
+met_codes l ms members (Some m) ws = concrete_codes l m (signature_among m ws) ws
 
 -- what is wrong with several methods of one name that meet in a type which declares none of that name
-abbrev pub meeting_codes : LayoutOf → List Scope → List (Scope × SignatureOf) → Rule (List (Option ℕ))
-meeting_codes l ms ws = cond (params_differ ws) (done (Some 36 ∷ [])) (met_codes l ms (first_concrete l ms) ws)
+abbrev pub meeting_codes : LayoutOf → List Scope → List Scope → List (Scope × SignatureOf) → Rule (List (Option ℕ))
+meeting_codes l ms members ws = cond (params_differ ws) (done (Some OVERLOADED ∷ [])) (met_codes l ms members (first_concrete l ms) ws)
 
--- what is wrong with the methods of one name that a type has; nothing where it declares one of them, or where there are fewer than two
-unfoldable pub meeting : LayoutOf → Scope → List Scope → Rule (List (Option ℕ))
-meeting l c ms = cond (declares_one l c ms || nat_lt (length ms) 2) (done []) (and_then (each (signature_of l) ms) (λ ss. meeting_codes l ms (whole_methods ms ss)))
+-- what is wrong with the methods of one name that a type inherits, of which these are its members; nothing where it declares one of them, or where there
+-- are fewer than two
+unfoldable pub meeting : LayoutOf → Scope → List Scope → List Scope → Rule (List (Option ℕ))
+meeting l c ms members =
+    cond (declares_one l c ms || nat_lt (length ms) 2) (done []) (and_then (each (signature_of l) ms) (λ ss. meeting_codes l ms members (whole_methods ms ss)))
 
--- a class that is not abstract implements each method that it has (JLS 8.1.1.1)
+-- a class that is not abstract implements each method that it has: not all members of a name are abstract, and none is an abstract one of a class
+-- (JLS 8.1.1.1, 8.4.8)
 abbrev pub is_unimplemented : LayoutOf → Scope → List Scope → Bool
-is_unimplemented l c ms = (not (is_interface_of l c) && not (is_abstract_of l c)) && list_all (is_abstract_of l) ms
+is_unimplemented l c members =
+    (not (is_interface_of l c) && not (is_abstract_of l c))
+    && (nat_lt 0 (length members) && (list_all (is_abstract_of l) members || list_any (is_abstract_of_class l) members))
 
--- the diagnostics of the methods of one name, by what is wrong where they meet, all at the type's name
+-- the diagnostics of the methods of one name, by its members and by what is wrong where they meet, all at the type's name
 abbrev pub group_diags : LayoutOf → List (List ℕ) → Scope → Ident → NameId → List Scope → List (Option ℕ) → List DiagOf
-group_diags l names c type n ms codes = code_diags l names c type n codes ++ fault_if (is_unimplemented l c ms) (named_diag l names c 35 type n)
+group_diags l names c type n members codes = code_diags l names c type n codes ++ fault_if (is_unimplemented l c members) (named_diag l names c UNIMPLEMENTED type n)
 
 -- the diagnostics of the methods of one name, all at the type's name
 unfoldable pub group_rule : LayoutOf → List (List ℕ) → Scope → Ident → NameId × List Scope → Rule (List DiagOf)
-group_rule l names c type g = and_then (meeting l c g.1) (λ codes. done (group_diags l names c type g.0 g.1 codes))
+group_rule l names c type g =
+    and_then (members_among l g.1) (λ members. and_then (meeting l c g.1 members) (λ codes. done (group_diags l names c type g.0 members codes)))
 
 -- the diagnostics of all methods that a type has
 abbrev pub all_groups : LayoutOf → List (List ℕ) → Scope → Ident → Ends → Rule (List DiagOf)
-all_groups l names c type TooMany = done (named_diag l names c 41 type type.id ∷ [])
+all_groups l names c type TooMany = done (named_diag l names c TOO_MANY_PATHS type type.id ∷ [])
 all_groups l names c type (Scopes ms) = and_then (each (group_rule l names c type) (groups_of l ms)) (λ ds. done (joined ds))
 
 -- the diagnostics of the methods that a type has, its own and those of its supertypes, as they meet in it

@@ -13,7 +13,7 @@ ghost use Rattle.jv_member.specs.Overriding.{named_diag, code_diags, overriding,
 use crate::clash::Clash;
 use crate::codes::{Codes, add_codes};
 use crate::pairs::read_overriding;
-use jv_diag::DiagList;
+use jv_diag::{DiagList, codes};
 use jv_instance::JavaPred;
 use jv_layout::{Layout, text_of};
 use jv_names::{Counts, Ends, Oracle, find_ends, for_name, kinds, object_methods};
@@ -137,7 +137,15 @@ fn read_against(
     ensures { Reads (reply_to o.now) (against l.now names.now ty type_name method name above) result }
 {
     match above {
-        Ends::TooMany => named_diag(alloc, l, names, ty, 41, type_name, type_name.id),
+        Ends::TooMany => named_diag(
+            alloc,
+            l,
+            names,
+            ty,
+            codes::TOO_MANY_PATHS,
+            type_name,
+            type_name.id,
+        ),
         Ends::Scopes(above) => {
             let others = with_objects(alloc, l, ty, name.id, above)?;
             let codes = read_each_overriding(alloc, l, o, method, others.as_slice())?;

@@ -1,6 +1,7 @@
+use jv_diag::codes;
 use std::marker::Model;
 
-/// What may be wrong with two methods of one name of which one stands for the other (JLS 8.4.8, 9.4.1).
+/// What may be wrong with methods of one name: two of which one stands for the other, or several that meet (JLS 8.4.8, 9.4.1).
 #[derive(Debug, Drop)]
 pub enum ClashKind {
     /// One of them is static and the other is not.
@@ -13,9 +14,11 @@ pub enum ClashKind {
     Result,
     /// They have other parameters.
     Params,
+    /// Default methods meet, or one with another.
+    Defaults,
 }
 
-/// What is wrong with two methods of one name. Contracts see the code of its diagnostic.
+/// What is wrong with methods of one name. Contracts see the code of its diagnostic.
 #[derive(Debug, Drop)]
 pub struct Clash {
     kind: ClashKind,
@@ -49,11 +52,12 @@ impl Clash {
         ensures text { takes result ≡ Some 1 }
     {
         match self.kind {
-            ClashKind::Static => 31,
-            ClashKind::Final => 32,
-            ClashKind::Weaker => 33,
-            ClashKind::Result => 34,
-            ClashKind::Params => 36,
+            ClashKind::Static => codes::STATIC_AND_INSTANCE,
+            ClashKind::Final => codes::OVERRIDES_FINAL,
+            ClashKind::Weaker => codes::WEAKER_ACCESS,
+            ClashKind::Result => codes::OTHER_RESULT,
+            ClashKind::Params => codes::OVERLOADED,
+            ClashKind::Defaults => codes::DEFAULTS_MEET,
         }
     }
 }

@@ -11,7 +11,7 @@ ghost use Rattle.jv_member.specs.MemberDecls.{own_of};
 ghost use Rattle.jv_member.specs.Constructors.{titled_diag, takes_some, can_call, call_diags, call_faults, only_class, call_of, calls_at, call_at, ctor_rule};
 
 use crate::member_decl::MemberDecl;
-use jv_diag::DiagList;
+use jv_diag::{DiagList, codes};
 use jv_instance::JavaPred;
 use jv_layout::Layout;
 use jv_names::{
@@ -60,8 +60,28 @@ fn call_faults(
     ensures { MatchResult result (λ diags. diags ≡ call_faults l.now names.now ty at class called enclosed) (λ stop. stop ≡ OutOfMemory) }
 {
     let mut diags = DiagList::empty(alloc);
-    add_titled(alloc, &mut diags, l, names, ty, 38, at, class, !called)?;
-    add_titled(alloc, &mut diags, l, names, ty, 57, at, class, !enclosed)?;
+    add_titled(
+        alloc,
+        &mut diags,
+        l,
+        names,
+        ty,
+        codes::NO_CONSTRUCTOR,
+        at,
+        class,
+        !called,
+    )?;
+    add_titled(
+        alloc,
+        &mut diags,
+        l,
+        names,
+        ty,
+        codes::NO_ENCLOSING_INSTANCE,
+        at,
+        class,
+        !enclosed,
+    )?;
     Ok(diags)
 }
 

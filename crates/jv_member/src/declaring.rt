@@ -10,13 +10,13 @@ ghost use Rattle.jv_tree.specs.StmtTree.{var_tree};
 ghost use Rattle.jv_tree.specs.TypeTree.{base_tree, type_tree};
 ghost use Rattle.jv_member.specs.Own.{own_method, own_ctor};
 ghost use Rattle.jv_member.specs.MemberDecls.{own_field_of, own_of};
-ghost use Rattle.jv_member.specs.Declaration.{at_name, of_fields, of_methods, of_ctors, are_bad_words, is_string_text, is_plain_base, is_constant, has_bad_field_words, has_bad_method_words, has_wrong_body, member_diags};
+ghost use Rattle.jv_member.specs.Declaration.{at_name, of_fields, of_methods, of_ctors, are_bad_words, is_string_text, is_plain_base, is_constant, has_bad_field_words, are_two_sorts, has_bad_method_words, is_abstract_by, has_wrong_body, member_diags};
 
 use crate::member_decl::MemberDecl;
-use jv_diag::DiagList;
+use jv_diag::{DiagList, codes};
 use jv_layout::words::{
-    ABSTRACT, FINAL, PRIVATE, PROTECTED, PUBLIC, STATIC, has_other, has_repeat, has_two_accesses,
-    is_written,
+    ABSTRACT, DEFAULT, FINAL, PRIVATE, PROTECTED, PUBLIC, STATIC, has_other, has_repeat,
+    has_two_accesses, is_written,
 };
 use jv_layout::{Declarations, Layout, text_of};
 use jv_tree::{Base, Ctor, Ident, Method, Mods, NameId, Names, TypeRef, Var};
@@ -46,7 +46,7 @@ fn are_bad_of_methods(interface: bool, words: &[u8]) -> bool
     ensures { result ≡ are_bad_words (of_methods interface) words.now }
 {
     if interface {
-        are_bad_words(&[PUBLIC, ABSTRACT], words)
+        are_bad_words(&[PUBLIC, ABSTRACT, STATIC, DEFAULT], words)
     } else {
         are_bad_words(
             &[PUBLIC, PROTECTED, PRIVATE, STATIC, ABSTRACT, FINAL],
@@ -108,24 +108,44 @@ fn has_bad_field_words(
             && !is_constant(names, words, written, variable)
 }
 
+/// Whether two of `abstract`, `static` and `default` stand.
+fn are_two_sorts(words: &[u8]) -> bool
+    ensures { result ≡ are_two_sorts words.now }
+{
+    is_written(ABSTRACT, words) && (is_written(STATIC, words) || is_written(DEFAULT, words))
+        || is_written(STATIC, words) && is_written(DEFAULT, words)
+}
+
 /// Whether the modifiers of a method cannot stand.
 fn has_bad_method_words(l: &Layout, ty: Scope, words: &[u8]) -> bool
     ensures { result ≡ has_bad_method_words l.now ty words.now }
 {
-    are_bad_of_methods(l.is_interface(ty), words)
-        || (is_written(ABSTRACT, words)
-            && (is_written(PRIVATE, words)
-                || (is_written(STATIC, words) || is_written(FINAL, words)))
-            || is_written(STATIC, words) && !l.is_static(ty))
+    let interface = l.is_interface(ty);
+    are_bad_of_methods(interface, words)
+        || (interface && are_two_sorts(words)
+            || (is_written(ABSTRACT, words)
+                && (is_written(PRIVATE, words)
+                    || (is_written(STATIC, words) || is_written(FINAL, words)))
+                || is_written(STATIC, words) && !l.is_static(ty)))
 }
 
-/// Whether a method of a class is abstract and has a body, or is not and has none.
+/// Whether a method is abstract by its modifiers: in an interface where neither `static` nor `default` is written, and in a class
+/// where `abstract` is.
+fn is_abstract_by(l: &Layout, ty: Scope, words: &[u8]) -> bool
+    ensures { result ≡ is_abstract_by l.now ty words.now }
+{
+    if l.is_interface(ty) {
+        !(is_written(STATIC, words) || is_written(DEFAULT, words))
+    } else {
+        is_written(ABSTRACT, words)
+    }
+}
+
+/// Whether a method is abstract and has a body, or is not and has none.
 fn has_wrong_body(l: &Layout, ty: Scope, method: &Method) -> bool
     ensures { result ≡ has_wrong_body l.now ty (method_tree method.now) }
 {
-    if l.is_interface(ty) {
-        false
-    } else if is_written(ABSTRACT, &method.mods.words) {
+    if is_abstract_by(l, ty, &method.mods.words) {
         method.body.is_some()
     } else {
         method.body.is_none()
@@ -176,8 +196,17 @@ fn field_diags(
     let name = variable.name;
     let bad = has_bad_field_words(l, names, ty, &mods.words, written, variable);
     let mut diags = DiagList::empty(alloc);
-    add_if(alloc, &mut diags, l, names, ty, 18, name, duplicate)?;
-    add_if(alloc, &mut diags, l, names, ty, 19, name, bad)?;
+    add_if(
+        alloc,
+        &mut diags,
+        l,
+        names,
+        ty,
+        codes::DUPLICATE_FIELD,
+        name,
+        duplicate,
+    )?;
+    add_if(alloc, &mut diags, l, names, ty, codes::MODIFIERS, name, bad)?;
     Ok(diags)
 }
 
@@ -198,9 +227,27 @@ fn method_diags(
     let bad = has_bad_method_words(l, ty, &method.mods.words);
     let wrong = has_wrong_body(l, ty, method);
     let mut diags = DiagList::empty(alloc);
-    add_if(alloc, &mut diags, l, names, ty, 36, name, duplicate)?;
-    add_if(alloc, &mut diags, l, names, ty, 19, name, bad)?;
-    add_if(alloc, &mut diags, l, names, ty, 37, name, wrong)?;
+    add_if(
+        alloc,
+        &mut diags,
+        l,
+        names,
+        ty,
+        codes::OVERLOADED,
+        name,
+        duplicate,
+    )?;
+    add_if(alloc, &mut diags, l, names, ty, codes::MODIFIERS, name, bad)?;
+    add_if(
+        alloc,
+        &mut diags,
+        l,
+        names,
+        ty,
+        codes::WRONG_BODY,
+        name,
+        wrong,
+    )?;
     Ok(diags)
 }
 
@@ -221,17 +268,32 @@ fn ctor_diags(
     let bad = are_bad_of_ctors(&ctor.mods.words);
     let mut diags = DiagList::empty(alloc);
     if duplicate {
-        diags.add(alloc, l.file_of(ty), name.at, 11, &[])?;
+        diags.add(
+            alloc,
+            l.file_of(ty),
+            name.at,
+            codes::SECOND_CONSTRUCTOR,
+            &[],
+        )?;
     }
-    add_if(alloc, &mut diags, l, names, ty, 19, name, bad)?;
-    add_if(alloc, &mut diags, l, names, ty, 42, name, name.id != class)?;
+    add_if(alloc, &mut diags, l, names, ty, codes::MODIFIERS, name, bad)?;
+    add_if(
+        alloc,
+        &mut diags,
+        l,
+        names,
+        ty,
+        codes::UNKNOWN_METHOD,
+        name,
+        name.id != class,
+    )?;
     Ok(diags)
 }
 
 /// What is wrong with the declaration of a member of a type with this name (JLS 8.1.3, 8.3, 8.3.1, 8.4, 8.4.3, 8.4.7, 8.8, 8.8.3,
-/// 9.3, 9.4): a second field, method or constructor of its name, modifiers that cannot stand, a body that is missing or stands
-/// where none may, and a constructor with another name than its class. All stand at its name. The member has this scope. It takes
-/// time in its modifiers and in the texts.
+/// 9.3, 9.4, 9.4.3): a second field, method or constructor of its name, modifiers that cannot stand, a body that is missing or
+/// stands where none may, and a constructor with another name than its class. All stand at its name. The member has this scope.
+/// It takes time in its modifiers and in the texts.
 pub fn member_diags(
     alloc: Global,
     l: &Layout,

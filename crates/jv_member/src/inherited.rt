@@ -14,10 +14,11 @@ use crate::clash::Clash;
 use crate::diag_lists::DiagLists;
 use crate::groups::{Groups, groups_of};
 use crate::meeting::read_meeting;
-use jv_diag::DiagList;
+use crate::of_class::has_abstract_of_class;
+use jv_diag::{DiagList, codes};
 use jv_instance::JavaPred;
 use jv_layout::Layout;
-use jv_names::{Counts, Ends, Oracle, find_ends, for_any, kinds};
+use jv_names::{Counts, Ends, Oracle, find_ends, for_any, kinds, read_members_among};
 use jv_tree::{Ident, NameId, Names};
 use sg_base::Scope;
 use sg_query::Query;
@@ -31,14 +32,16 @@ fn are_abstract(l: &Layout, methods: &[Scope]) -> bool
     methods.iter().all(|method| l.is_abstract(*method))
 }
 
-/// Whether a class that is not abstract has abstract methods alone of a name (JLS 8.1.1.1).
-fn is_unimplemented(l: &Layout, ty: Scope, methods: &[Scope]) -> bool
-    ensures { result ≡ is_unimplemented l.now ty methods.now }
+/// Whether a class that is not abstract leaves a name without an implementation (JLS 8.1.1.1, 8.4.8): all members of the name are
+/// abstract, or one of them is an abstract one of a class.
+fn is_unimplemented(l: &Layout, ty: Scope, members: &[Scope]) -> bool
+    ensures { result ≡ is_unimplemented l.now ty members.now }
 {
-    (!l.is_interface(ty) && !l.is_abstract(ty)) && are_abstract(l, methods)
+    (!l.is_interface(ty) && !l.is_abstract(ty))
+        && (!members.is_empty() && (are_abstract(l, members) || has_abstract_of_class(l, members)))
 }
 
-/// The diagnostics of the methods of one name, by what is wrong where they meet.
+/// The diagnostics of the methods of one name, by its members and by what is wrong where they meet.
 fn group_diags(
     alloc: Global,
     l: &Layout,
@@ -46,14 +49,15 @@ fn group_diags(
     ty: Scope,
     type_name: Ident,
     name: NameId,
-    methods: &[Scope],
-    codes: &[Option<Clash>],
+    members: &[Scope],
+    clashes: &[Option<Clash>],
 ) -> Result<DiagList, Stop<Query<JavaPred>>>
-    ensures { MatchResult result (λ diags. diags ≡ group_diags l.now names.now ty type_name name methods.now codes.now) (λ stop. stop ≡ OutOfMemory) }
+    ensures { MatchResult result (λ diags. diags ≡ group_diags l.now names.now ty type_name name members.now clashes.now) (λ stop. stop ≡ OutOfMemory) }
 {
-    let mut diags = code_diags(alloc, l, names, ty, type_name, name, codes)?;
-    if is_unimplemented(l, ty, methods) {
-        diags.append(named_diag(alloc, l, names, ty, 35, type_name, name)?)?;
+    let mut diags = code_diags(alloc, l, names, ty, type_name, name, clashes)?;
+    if is_unimplemented(l, ty, members) {
+        let code = codes::UNIMPLEMENTED;
+        diags.append(named_diag(alloc, l, names, ty, code, type_name, name)?)?;
     }
     Ok(diags)
 }
@@ -72,7 +76,8 @@ fn read_group(
 ) -> Result<DiagList, Stop<Query<JavaPred>>>
     ensures { Reads (reply_to o.now) (group_rule l.now names.now ty type_name (name, methods.now)) result }
 {
-    let codes = read_meeting(alloc, l, o, ty, methods)?;
+    let members = read_members_among(alloc, l, o, methods)?;
+    let clashes = read_meeting(alloc, l, o, ty, methods, members.as_slice())?;
     group_diags(
         alloc,
         l,
@@ -80,8 +85,8 @@ fn read_group(
         ty,
         type_name,
         name,
-        methods,
-        codes.as_slice(),
+        members.as_slice(),
+        clashes.as_slice(),
     )
 }
 
@@ -112,7 +117,7 @@ fn read_groups(
 }
 
 /// The diagnostics of all methods that a type has, by the ends of their paths. It takes the time of the answers, and for each name
-/// that of comparing each pair of its methods.
+/// that of comparing each pair of its methods, also by the supertypes of the types that declare them.
 #[tactic(auto, using(crate::proofs::GroupSteps::group_steps))]
 pub fn read_all_groups(
     alloc: Global,
@@ -126,7 +131,15 @@ pub fn read_all_groups(
     ensures { Reads (reply_to o.now) (all_groups l.now names.now ty type_name ends) result }
 {
     match ends {
-        Ends::TooMany => named_diag(alloc, l, names, ty, 41, type_name, type_name.id),
+        Ends::TooMany => named_diag(
+            alloc,
+            l,
+            names,
+            ty,
+            codes::TOO_MANY_PATHS,
+            type_name,
+            type_name.id,
+        ),
         Ends::Scopes(methods) => {
             let groups = groups_of(alloc, l, methods.as_slice())?;
             let lists = read_groups(alloc, l, names, o, ty, type_name, &groups)?;
@@ -136,9 +149,9 @@ pub fn read_all_groups(
 }
 
 /// The diagnostics of all methods that a type has (JLS 8.1.1.1, 8.4.8.4, 9.4.1.3), as far as the replies tell them, or the first
-/// query that has no reply: what is wrong where methods of a name meet, and which name has abstract methods alone in a class
-/// that is not abstract. All stand at the type's name. It takes the time of the answers, and for each name that of comparing
-/// each pair of its methods.
+/// query that has no reply: what is wrong where methods of a name meet, and which name has no implementation in a class that is
+/// not abstract. All stand at the type's name. It takes the time of the answers, and for each name that of comparing each pair
+/// of its methods, also by the supertypes of the types that declare them.
 #[tactic(auto, using(crate::proofs::GroupSteps::group_steps), unfolding(crate::specs::Overriding::inherited_rule))]
 pub fn read_inherited_rule(
     alloc: Global,

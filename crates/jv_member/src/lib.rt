@@ -21,6 +21,7 @@ mod meeting;
 mod member_decl;
 pub mod member_laws;
 mod members;
+mod of_class;
 mod pairs;
 mod placed;
 mod signature;

@@ -1,22 +1,24 @@
 //! Methods of one name that meet in a type.
 
-ghost use Rattle.std.specs.Prelude.{◌≡◌, IfOk, option_copied};
-ghost use Rattle.std.specs.List.{filter};
+ghost use Rattle.std.specs.Prelude.{◌≡◌, IfOk, MatchResult, option_copied};
+ghost use Rattle.std.specs.List.{filter, list_any};
 ghost use Rattle.sg_reading.specs.Reading.{each};
 ghost use Rattle.sg_reading.specs.Stop.{Reads};
+ghost use Rattle.sg_reading.specs.declared.stop.Stop.TheVariants.{OutOfMemory};
+ghost use Rattle.jv_layout.specs.Readers.{is_default_of};
 ghost use Rattle.jv_names.specs.Replies.{reply_to};
-ghost use Rattle.jv_names.specs.Chosen.{first_concrete};
-ghost use Rattle.jv_member.specs.Overriding.{is_owner, declares_one, meets, is_other, concrete_codes, results_of, some_fits, abstract_codes, met_codes, meeting_codes, meeting};
+ghost use Rattle.jv_member.specs.Overriding.{is_owner, declares_one, first_concrete, meets_default, default_codes, meets, is_other, concrete_codes, results_of, some_fits, abstract_codes, met_codes, meeting_codes, meeting};
 
 use crate::clash::{Clash, ClashKind};
 use crate::codes::Codes;
+use crate::of_class::has_abstract_of_class;
 use crate::pairs::read_meeting_code;
 use crate::whole_methods::{
     WholeMethod, params_differ, read_signatures, signature_among, whole_methods,
 };
 use jv_instance::{JavaPred, Ty, TypeList};
 use jv_layout::Layout;
-use jv_names::{Oracle, ReadSignature, first_concrete, read_fits_all};
+use jv_names::{Oracle, ReadSignature, read_fits_all};
 use sg_base::Scope;
 use sg_query::Query;
 use sg_reading::Stop;
@@ -37,6 +39,48 @@ fn declares_one(l: &Layout, ty: Scope, methods: &[Scope]) -> bool
     ensures { result ≡ declares_one l.now ty methods.now }
 {
     methods.iter().any(|method| is_owner(ty, l.owner(*method)))
+}
+
+/// The first method that a class declares and that is not abstract. It takes time in the number of methods.
+fn first_concrete(l: &Layout, methods: &[Scope]) -> Option<Scope>
+    ensures { result ≡ first_concrete l.now methods.now }
+{
+    for method in methods {
+        if !(l.is_abstract(*method) || l.is_interface_method(*method)) {
+            return Some(*method);
+        }
+    }
+    None
+}
+
+/// Whether one of the methods is a default method (JLS 9.4.3).
+fn has_default(l: &Layout, methods: &[Scope]) -> bool
+    ensures { result ≡ list_any (is_default_of l.now) methods.now }
+{
+    methods.iter().any(|method| l.is_default(*method))
+}
+
+/// Whether a default method and another one are members, and none of them is an abstract one of a class (JLS 8.4.8.4, 9.4.1.3).
+fn meets_default(l: &Layout, members: &[Scope]) -> bool
+    ensures { result ≡ meets_default l.now members.now }
+{
+    has_default(l, members) && (members.len() >= 2 && !has_abstract_of_class(l, members))
+}
+
+/// What is wrong where default methods meet.
+fn default_codes(
+    alloc: Global,
+    l: &Layout,
+    members: &[Scope],
+) -> Result<Codes, Stop<Query<JavaPred>>>
+    ensures { MatchResult result (λ codes. codes ≡ default_codes l.now members.now) (λ stop. stop ≡ OutOfMemory) }
+{
+    let codes = Codes::empty(alloc);
+    if meets_default(l, members) {
+        codes.with(Some(Clash::new(ClashKind::Defaults)))
+    } else {
+        Ok(codes)
+    }
 }
 
 /// Whether a method is another one.
@@ -81,7 +125,7 @@ fn read_each_meets(
     Ok(codes)
 }
 
-/// What is wrong where a method that is not abstract stands for all others.
+/// What is wrong where a method of a class that is not abstract stands for all others.
 #[tactic(auto, using(crate::proofs::MeetingSteps::meeting_steps))]
 fn read_concrete_codes(
     alloc: Global,
@@ -123,26 +167,26 @@ fn read_some_fits(l: &Layout, o: &Oracle, results: &[Ty]) -> Result<bool, Stop<Q
     Ok(false)
 }
 
-/// What is wrong where all methods are abstract.
+/// What is wrong where no method of a class stands for all.
 #[tactic(auto, using(crate::proofs::MeetingSteps::meeting_steps))]
 fn read_abstract_codes(
     alloc: Global,
     l: &Layout,
     o: &Oracle,
     methods: &[Scope],
+    members: &[Scope],
     whole: &[WholeMethod],
 ) -> Result<Codes, Stop<Query<JavaPred>>>
-    ensures { Reads (reply_to o.now) (abstract_codes l.now methods.now whole.now) result }
+    ensures { Reads (reply_to o.now) (abstract_codes l.now methods.now members.now whole.now) result }
 {
-    let codes = Codes::empty(alloc);
     if whole.len() != methods.len() {
-        return Ok(codes);
+        return default_codes(alloc, l, members);
     }
     let results = results_of(alloc, whole)?;
     if read_some_fits(l, o, results.as_slice())? {
-        Ok(codes)
+        default_codes(alloc, l, members)
     } else {
-        codes.with(Some(Clash::new(ClashKind::Result)))
+        Codes::empty(alloc).with(Some(Clash::new(ClashKind::Result)))
     }
 }
 
@@ -153,12 +197,13 @@ fn read_met_codes(
     l: &Layout,
     o: &Oracle,
     methods: &[Scope],
+    members: &[Scope],
     whole: &[WholeMethod],
 ) -> Result<Codes, Stop<Query<JavaPred>>>
-    ensures { Reads (reply_to o.now) (met_codes l.now methods.now (first_concrete l.now methods.now) whole.now) result }
+    ensures { Reads (reply_to o.now) (met_codes l.now methods.now members.now (first_concrete l.now methods.now) whole.now) result }
 {
     match first_concrete(l, methods) {
-        None => read_abstract_codes(alloc, l, o, methods, whole),
+        None => read_abstract_codes(alloc, l, o, methods, members, whole),
         Some(method) => {
             let signature = signature_among(method, whole);
             read_concrete_codes(alloc, l, o, method, signature, whole)
@@ -173,20 +218,22 @@ fn read_meeting_codes(
     l: &Layout,
     o: &Oracle,
     methods: &[Scope],
+    members: &[Scope],
     whole: &[WholeMethod],
 ) -> Result<Codes, Stop<Query<JavaPred>>>
-    ensures { Reads (reply_to o.now) (meeting_codes l.now methods.now whole.now) result }
+    ensures { Reads (reply_to o.now) (meeting_codes l.now methods.now members.now whole.now) result }
 {
     if params_differ(whole) {
         return Codes::empty(alloc).with(Some(Clash::new(ClashKind::Params)));
     }
-    read_met_codes(alloc, l, o, methods, whole)
+    read_met_codes(alloc, l, o, methods, members, whole)
 }
 
-/// What is wrong with the methods of one name that meet in a type (JLS 8.4.8.4, 9.4.1.3), as far as the replies tell it, or the
-/// first query that has no reply: nothing where the type declares one of them. Else other parameters than those of the first;
-/// else each method is compared with the first that is not abstract; and where all are abstract, the result of one of them has to
-/// fit all. Methods with bad types are passed over. It takes the time of the answers, and of comparing each pair of results.
+/// What is wrong with the methods of one name that meet in a type, of which some are its members (JLS 8.4.8.4, 9.4.1.3), as far as
+/// the replies tell it, or the first query that has no reply: nothing where the type declares one of them. Else other parameters
+/// than those of the first; else each method is compared with the first of a class that is not abstract; and where there is none,
+/// the result of one of them has to fit all, and else a default method may not meet another member. Methods with bad types are
+/// passed over. It takes the time of the answers, and of comparing each pair of results.
 #[tactic(auto, using(crate::proofs::MeetingSteps::meeting_steps), unfolding(crate::specs::Overriding::meeting))]
 pub fn read_meeting(
     alloc: Global,
@@ -194,13 +241,14 @@ pub fn read_meeting(
     o: &Oracle,
     ty: Scope,
     methods: &[Scope],
+    members: &[Scope],
 ) -> Result<Codes, Stop<Query<JavaPred>>>
-    ensures { Reads (reply_to o.now) (meeting l.now ty methods.now) result }
+    ensures { Reads (reply_to o.now) (meeting l.now ty methods.now members.now) result }
 {
     if declares_one(l, ty, methods) || methods.len() < 2 {
         return Ok(Codes::empty(alloc));
     }
     let signatures = read_signatures(alloc, l, o, methods)?;
     let whole = whole_methods(alloc, methods, signatures)?;
-    read_meeting_codes(alloc, l, o, methods, whole.as_slice())
+    read_meeting_codes(alloc, l, o, methods, members, whole.as_slice())
 }

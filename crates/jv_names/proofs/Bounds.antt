@@ -1,14 +1,15 @@
 -- What rules of names ask and find, whatever the answers.
-use Rattle.std.proofs.Common.{◌≡◌, ℕ, zero, suc, ◌<◌, ◌&&◌, Bool, true, false, cond, IsTrue, IfSome, List, [], ◌∷◌, ◌++◌, Option, Some, None, length, fold, is_some, inl, inr, refl, sym, subst, arith}
-use Rattle.std.specs.List.{Contains, filter, list_all}
+use Rattle.std.proofs.Common.{◌≡◌, ℕ, zero, suc, ◌<◌, ◌&&◌, ◌||◌, Bool, true, false, cond, IsTrue, IfSome, List, [], ◌∷◌, ◌++◌, Option, Some, None, length, fold, is_some, inl, inr, refl, sym, subst, arith}
+use Rattle.std.specs.List.{All, Contains, filter, list_all}
 use Rattle.std.specs.Option.{option_map}
 use Rattle.std.proofs.lemmas.Bool.{and_parts}
-use Rattle.std.proofs.lemmas.List.Elements.{All-nil, All-cons, All-head, All-tail, All-push, All-weaker, All-contains_itself}
+use Rattle.std.proofs.lemmas.List.Elements.{All-nil, All-cons, All-head, All-tail, All-push, All-weaker, All-contains, All-contains_itself}
 use Rattle.sg_base.specs.declared.scope.Scope.{Scope}
 use Rattle.sg_base.specs.Scope.{is_scope, scope_cmp, scope_total}
 use Rattle.sg_base.proofs.Scopes.{equal_scope}
 use Rattle.sg_state.specs.Held.{put}
 use Rattle.sg_state.proofs.OpenLists.{puts_hold}
+use Rattle.sg_state.proofs.RisingLists.{Contains-put}
 use Rattle.sg_base.proofs.Finite.{Contains-head, Contains-map, Contains-filter}
 use Rattle.sg_query.specs.declared.answer.Answer.{Answer}
 use Rattle.sg_query.specs.declared.answer.Answer.TheVariants.{Paths, TooMany as TooManyPaths}
@@ -24,11 +25,11 @@ use Rattle.jv_instance.specs.declared.datum.JavaDatum.{JavaDatum}
 use Rattle.jv_instance.specs.declared.pred.JavaPred.{JavaPred}
 use Rattle.jv_layout.specs.declared.place.Place.{Place}
 use Rattle.jv_layout.specs.declared.place.Place.TheVariants.{Outside, Root, Unnamed, Package, File, Ty, Member, Signature}
-use Rattle.jv_layout.specs.Fits.{fits, is_package, is_type}
+use Rattle.jv_layout.specs.Fits.{fits, is_member_by, is_package, is_type}
 use Rattle.jv_layout.specs.Folder.{LayoutOf}
 use Rattle.jv_layout.specs.Laws.{IsScopeOf}
 use Rattle.jv_layout.specs.Linked.{IsLinked, IsBelow}
-use Rattle.jv_layout.specs.Readers.{no_type, access_of, file_at, file_of, owner_at, owner_scope, object_scope, is_static_of, type_at}
+use Rattle.jv_layout.specs.Readers.{no_member, no_type, access_of, file_at, file_of, is_interface_method_of, member_at, owner_at, owner_scope, object_scope, is_static_of, type_at}
 use Rattle.jv_layout.specs.Scopes.{place_of, root_scope, file_scope, type_scope}
 use Rattle.jv_layout.proofs.SoundPlaces.{placed, scopes_have_places}
 use Rattle.jv_tree.specs.declared.name.Ident.{Ident}
@@ -39,6 +40,8 @@ use Rattle.jv_names.specs.declared.context.Context.{Context}
 use Rattle.jv_names.specs.declared.context.Context.TheVariants.{TypeName, SingleImport, OnDemandImport}
 use Rattle.jv_names.specs.declared.counts.Counts.{Counts}
 use Rattle.jv_names.specs.declared.counts.Counts.TheVariants.{OwnPackages, OwnTypes, MemberTypes, FileTypes, Fields, Methods}
+use Rattle.jv_names.specs.declared.ends.Ends.{Ends}
+use Rattle.jv_names.specs.declared.ends.Ends.TheVariants.{Scopes, TooMany as TooManyEnds}
 use Rattle.jv_names.specs.declared.kinds.TheConstants.{SUBPKG, OWNTYPE, MEMTYPE, FILETYPE, FIELDS, METHODS}
 use Rattle.jv_names.specs.declared.meaning.Meaning.{Meaning}
 use Rattle.jv_names.specs.declared.meaning.Meaning.TheVariants.{One, Nothing, Ambiguous, TooMany}
@@ -47,9 +50,9 @@ use Rattle.jv_names.specs.declared.qualifier.Qualifier.TheVariants.{InPackage, I
 use Rattle.jv_names.specs.declared.resolved.Resolved.{Resolved}
 use Rattle.jv_names.specs.Access.{is_same_package, has_super, some_body, member_type_by, type_accessible_by, type_accessible, receiver_fits, body_fits, is_constructor, protected_elsewhere, member_accessible_by, member_accessible}
 use Rattle.jv_names.specs.Bodies.{outward, header_bodies}
-use Rattle.jv_names.specs.Bounds.{is_start, IsNameQuery, IsTypeScope, IsPackageScope, AreTypes, MeansOnly, EndsOnly, IsMemberScope, FieldsStayIn, MethodsStayIn, BodiesAreTypes, IsMeant, IsResolvedIn, IsReferenceIn, IsBaseIn, IsWrittenIn, WrittenTypesStayIn, StaysIn}
+use Rattle.jv_names.specs.Bounds.{is_start, IsNameQuery, IsTypeScope, IsPackageScope, AreTypes, MeansOnly, EndsOnly, IsMemberScope, AllMethodsStayIn, FieldsStayIn, MembersAmongStayIn, MethodsStayIn, BodiesAreTypes, IsMeant, IsResolvedIn, IsReferenceIn, IsBaseIn, IsWrittenIn, WrittenTypesStayIn, StaysIn}
 use Rattle.jv_names.specs.Ends.{path_end, is_sought, passes, is_counted, counted_ends, meaning_of, answer_meaning, answer_ends}
-use Rattle.jv_names.specs.Members.{find_ends, field, methods}
+use Rattle.jv_names.specs.Members.{all_methods, field, find_ends, is_of_class, is_replaced, lies_below, members_among, members_from, methods, stands_for, with_members}
 use Rattle.jv_names.specs.Names.{look_up, or_next, file_type, member_type, simple_type, ended, on_one, last_meaning, type_part, package_type, subpackage, further_parts, from_root, not_a_type, type_name, import_context, import_name}
 use Rattle.jv_names.specs.Reference.{refused, reference}
 use Rattle.jv_names.specs.Replies.{Rule, for_name}
@@ -103,6 +106,17 @@ module _ (l : LayoutOf) where
   pub object_is_type : (s : Scope) → IsTypeScope l s → IsTypeScope l (object_scope l)
   object_is_type s k = type_place (λ p. IsTypeScope l (object_scope l)) (λ t h. row_is_type 0 (omega (arith, h))) s k
 
+  -- what holds of the place of each row of a member holds of a member's place
+  member_at_row : (label : ℕ) (P : Place → Type 0) → ((m : ℕ) → m < length l.members → P (Member m)) → (p : Place) (s : Scope) → IsTrue (is_member_by l label p) → IsScopeOf l p s → P p
+  member_at_row label P h (Member m) s k at = h m at.0
+  member_at_row label P h Outside s k at = let e : false ≡ true = k in absurd (cc)
+  member_at_row label P h Root s k at = let e : false ≡ true = k in absurd (cc)
+  member_at_row label P h Unnamed s k at = let e : false ≡ true = k in absurd (cc)
+  member_at_row label P h (Package p) s k at = let e : false ≡ true = k in absurd (cc)
+  member_at_row label P h (File f) s k at = let e : false ≡ true = k in absurd (cc)
+  member_at_row label P h (Ty t) s k at = let e : false ≡ true = k in absurd (cc)
+  member_at_row label P h (Signature m) s k at = let e : false ≡ true = k in absurd (cc)
+
   module _ (linked : IsLinked l) where
     owner_row : (o : Option ℕ) → IsBelow (length l.types) o → IfSome (option_map (type_scope l) o) (IsTypeScope l)
     owner_row None h = tt
@@ -111,6 +125,11 @@ module _ (l : LayoutOf) where
     -- a type stands in the body of a type or in none, and in a file of the layout
     pub owner_is_type : (s : Scope) → IsTypeScope l s → IfSome (owner_scope l s) (IsTypeScope l)
     owner_is_type s k = type_place (λ p. IfSome (owner_at l p) (IsTypeScope l)) (λ t h. owner_row (type_at l t).owner (linked.owners t no_type h)) s k
+
+    -- a method stands in the body of a type
+    pub owner_of_member : (s : Scope) → IsMemberScope l METH s → IfSome (owner_scope l s) (IsTypeScope l)
+    owner_of_member s k =
+        member_at_row METH (λ p. IfSome (owner_at l p) (IsTypeScope l)) (λ m h. row_is_type (member_at l m).owner (linked.members m no_member h)) (place_of l s) s k (placed l s)
 
     pub file_is_one : (s : Scope) → IsTypeScope l s → file_of l s < length l.files
     file_is_one s k = type_place (λ p. file_at l p < length l.files) (λ t h. linked.type_files t no_type h) s k
@@ -154,6 +173,13 @@ module _ (l : LayoutOf) (c : Counts) where
   answer_ends_sought (Paths fs) =
       All-weaker (Contains (fold (put scope_cmp) [] (counted_ends l c fs))) IsSought (λ s k. counted_end fs s ((puts_hold scope_cmp scope_total equal_scope (counted_ends l c fs) s).0 k)) (fold (put scope_cmp) [] (counted_ends l c fs)) (All-contains_itself (fold (put scope_cmp) [] (counted_ends l c fs)))
   answer_ends_sought TooManyPaths = tt
+
+-- a set with one more scope of a kind has scopes of that kind alone
+all_put : (P : Scope → Type 0) (xs : List Scope) (s : Scope) → All P xs → P s → All P (put scope_cmp xs s)
+all_put P xs s h k =
+    All-weaker (Contains (put scope_cmp xs s)) P
+    (λ t there. elim ((Contains-put scope_cmp scope_total xs s (λ y c e. equal_scope s y e) t).0 there) [ inl c ↦ All-contains P xs t h c | inr e ↦ subst P (sym e) k ])
+    (put scope_cmp xs s) (All-contains_itself (put scope_cmp xs s))
 
 -- ---- rules in turn
 
@@ -211,8 +237,8 @@ module _ (l : LayoutOf) (count : ℕ) where
     pub field_stays : (class : Scope) → IsTypeScope l class → StaysIn l count (MeansOnly (IsMemberScope l FIELD)) (field l class n)
     field_stays class h = look_up_stays Fields (for_name FIELDS class n) (record { start = type_starts (place_of l class) h; kind = omega arith; plain = λ e. omega (arith, e); pred = numbered })
 
-    pub methods_stay : (class : Scope) → IsTypeScope l class → StaysIn l count (EndsOnly (IsMemberScope l METH)) (methods l class n)
-    methods_stay class h = find_ends_stays Methods (for_name METHODS class n) (record { start = type_starts (place_of l class) h; kind = omega arith; plain = λ e. omega (arith, e); pred = numbered })
+    pub all_methods_stay : (class : Scope) → IsTypeScope l class → StaysIn l count (EndsOnly (IsMemberScope l METH)) (all_methods l class n)
+    all_methods_stay class h = find_ends_stays Methods (for_name METHODS class n) (record { start = type_starts (place_of l class) h; kind = omega arith; plain = λ e. omega (arith, e); pred = numbered })
 
     -- ---- simple names
 
@@ -298,18 +324,18 @@ module _ (l : LayoutOf) (count : ℕ) where
 
   -- ---- access
 
-  some_body_asks : (f : Scope → Rule Bool) → ((b : Scope) → IsTypeScope l b → AllAsked (IsNameQuery l count) (f b)) → (bodies : List Scope) → AreTypes l bodies → AllAsked (IsNameQuery l count) (some_body f bodies)
-  some_body_asks f h [] around = tt
-  some_body_asks f h (b ∷ bs) around =
-      and_then-asked_where (IsNameQuery l count) (λ v. Unit {0}) (f b) (λ found. cond found (done true) (some_body f bs)) (h b (All-head (IsTypeScope l) b bs around)) (any_ends (f b))
-      (λ v u. elim v as (λ (v : Bool). AllAsked (IsNameQuery l count) (cond v (done true) (some_body f bs))) [ true ↦ tt | false ↦ some_body_asks f h bs (All-tail (IsTypeScope l) b bs around) ])
+  some_body_asks : (P : Scope → Type 0) (f : Scope → Rule Bool) → ((b : Scope) → P b → AllAsked (IsNameQuery l count) (f b)) → (bodies : List Scope) → All P bodies → AllAsked (IsNameQuery l count) (some_body f bodies)
+  some_body_asks P f h [] around = tt
+  some_body_asks P f h (b ∷ bs) around =
+      and_then-asked_where (IsNameQuery l count) (λ v. Unit {0}) (f b) (λ found. cond found (done true) (some_body f bs)) (h b (All-head P b bs around)) (any_ends (f b))
+      (λ v u. elim v as (λ (v : Bool). AllAsked (IsNameQuery l count) (cond v (done true) (some_body f bs))) [ true ↦ tt | false ↦ some_body_asks P f h bs (All-tail P b bs around) ])
 
   member_type_asks : (file : ℕ) (bodies : List Scope) (t d : Scope) (access : Access) → AreTypes l bodies → AllAsked (IsNameQuery l count) (member_type_by l file bodies t d access)
   member_type_asks file bodies t d Public around = tt
   member_type_asks file bodies t d Private around = tt
   member_type_asks file bodies t d PackageAccess around = tt
   member_type_asks file bodies t d Protected around =
-      elim (is_same_package l file t) as (λ (b : Bool). AllAsked (IsNameQuery l count) (cond b (done true) (some_body (has_super l d) bodies))) [ true ↦ tt | false ↦ some_body_asks (has_super l d) (has_super_asks d) bodies around ]
+      elim (is_same_package l file t) as (λ (b : Bool). AllAsked (IsNameQuery l count) (cond b (done true) (some_body (has_super l d) bodies))) [ true ↦ tt | false ↦ some_body_asks (IsTypeScope l) (has_super l d) (has_super_asks d) bodies around ]
 
   accessible_asks : (file : ℕ) (bodies : List Scope) (t : Scope) (o : Option Scope) → AreTypes l bodies → AllAsked (IsNameQuery l count) (type_accessible_by l file bodies t o)
   accessible_asks file bodies t None around = tt
@@ -333,7 +359,7 @@ module _ (l : LayoutOf) (count : ℕ) where
   elsewhere_asks bodies m through (Some d) around h =
       elim (is_constructor l m && is_some through) as (λ (b : Bool). AllAsked (IsNameQuery l count) (cond b (done false) (some_body (body_fits l m d through) bodies))) [
         | true ↦ tt
-        | false ↦ some_body_asks (body_fits l m d through) (body_fits_asks m d through h) bodies around
+        | false ↦ some_body_asks (IsTypeScope l) (body_fits l m d through) (body_fits_asks m d through h) bodies around
       ]
 
   member_asks : (file : ℕ) (bodies : List Scope) (m : Scope) (through : Option Scope) (access : Access) → AreTypes l bodies → IfSome through (IsTypeScope l) → AllAsked (IsNameQuery l count) (member_accessible_by l file bodies m through access)
@@ -345,6 +371,54 @@ module _ (l : LayoutOf) (count : ℕ) where
 
   pub member_accessible_stays : (file : ℕ) (bodies : List Scope) (m : Scope) (through : Option Scope) → AreTypes l bodies → IfSome through (IsTypeScope l) → StaysIn l count (λ (b : Bool). Unit {0}) (member_accessible l file bodies m through)
   member_accessible_stays file bodies m through around h = record { asks = member_asks file bodies m through (access_of l m) around h; ends = any_ends (member_accessible l file bodies m through) }
+
+  -- ---- members among methods
+
+  lies_below_asks : (above below : Option Scope) → IfSome below (IsTypeScope l) → AllAsked (IsNameQuery l count) (lies_below l above below)
+  lies_below_asks None below h = tt
+  lies_below_asks (Some j) None h = tt
+  lies_below_asks (Some j) (Some d) h = elim (is_scope j d) as (λ (b : Bool). AllAsked (IsNameQuery l count) (cond b (done false) (has_super l j d))) [ true ↦ tt | false ↦ has_super_asks j d h ]
+
+  module _ (linked : IsLinked l) where
+    stands_for_asks : (m k : Scope) → IsMemberScope l METH k → AllAsked (IsNameQuery l count) (stands_for l m k)
+    unfolding stands_for
+    stands_for_asks m k h =
+        elim (is_scope m k || is_static_of l k) as (λ (b : Bool). AllAsked (IsNameQuery l count) (cond b (done false) (cond (is_of_class l k) (done true) (lies_below l (owner_scope l m) (owner_scope l k))))) [
+          | true ↦ tt
+          | false ↦ elim (is_of_class l k) as (λ (b : Bool). AllAsked (IsNameQuery l count) (cond b (done true) (lies_below l (owner_scope l m) (owner_scope l k)))) [
+            | true ↦ tt
+            | false ↦ lies_below_asks (owner_scope l m) (owner_scope l k) (owner_of_member l linked k h)
+          ]
+        ]
+
+    replaced_asks : (all : List Scope) → All (IsMemberScope l METH) all → (m : Scope) → AllAsked (IsNameQuery l count) (is_replaced l all m)
+    replaced_asks all are m =
+        elim (is_interface_method_of l m) as (λ (b : Bool). AllAsked (IsNameQuery l count) (cond b (some_body (stands_for l m) all) (done false))) [
+          | true ↦ some_body_asks (IsMemberScope l METH) (stands_for l m) (stands_for_asks m) all are
+          | false ↦ tt
+        ]
+
+    members_from_stay : (all kept ms : List Scope) → All (IsMemberScope l METH) all → All (IsMemberScope l METH) kept → All (IsMemberScope l METH) ms → StaysIn l count (All (IsMemberScope l METH)) (members_from l all kept ms)
+    members_from_stay all kept [] are h k = done_stays (All (IsMemberScope l METH)) kept h
+    members_from_stay all kept (m ∷ ms) are h k =
+        then_stays (λ (b : Bool). Unit {0}) (All (IsMemberScope l METH)) (is_replaced l all m) (λ gone. members_from l all (cond gone kept (put scope_cmp kept m)) ms) (record { asks = replaced_asks all are m; ends = any_ends (is_replaced l all m) })
+        (λ gone u. members_from_stay all (cond gone kept (put scope_cmp kept m)) ms are
+        (elim gone as (λ (gone : Bool). All (IsMemberScope l METH) (cond gone kept (put scope_cmp kept m))) [ true ↦ h | false ↦ all_put (IsMemberScope l METH) kept m h (All-head (IsMemberScope l METH) m ms k) ])
+        (All-tail (IsMemberScope l METH) m ms k))
+
+    -- the members among methods are methods
+    pub members_among_stay : (ms : List Scope) → All (IsMemberScope l METH) ms → StaysIn l count (All (IsMemberScope l METH)) (members_among l ms)
+    unfolding members_among
+    members_among_stay ms are = members_from_stay ms [] ms are (All-nil (IsMemberScope l METH)) are
+
+    with_members_stay : (ends : Ends) → EndsOnly (IsMemberScope l METH) ends → StaysIn l count (EndsOnly (IsMemberScope l METH)) (with_members l ends)
+    with_members_stay TooManyEnds h = done_stays (EndsOnly (IsMemberScope l METH)) TooManyEnds tt
+    with_members_stay (Scopes ms) h =
+        then_stays (All (IsMemberScope l METH)) (EndsOnly (IsMemberScope l METH)) (members_among l ms) (λ ks. done (Scopes ks)) (members_among_stay ms h) (λ ks are. done_stays (EndsOnly (IsMemberScope l METH)) (Scopes ks) are)
+
+    pub methods_stay : (n : NameId) → n.0 < count → (class : Scope) → IsTypeScope l class → StaysIn l count (EndsOnly (IsMemberScope l METH)) (methods l class n)
+    methods_stay n numbered class h =
+        then_stays (EndsOnly (IsMemberScope l METH)) (EndsOnly (IsMemberScope l METH)) (all_methods l class n) (with_members l) (all_methods_stay n numbered class h) with_members_stay
 
   -- ---- references
 
@@ -396,8 +470,14 @@ module _ (l : LayoutOf) (count : ℕ) where
 pub fields_stay_in : FieldsStayIn
 fields_stay_in l count class n h numbered = field_stays l count n numbered class h
 
+pub all_methods_stay_in : AllMethodsStayIn
+all_methods_stay_in l count class n h numbered = all_methods_stay l count n numbered class h
+
 pub methods_stay_in : MethodsStayIn
-methods_stay_in l count class n h numbered = methods_stay l count n numbered class h
+methods_stay_in l count class n linked h numbered = methods_stay l count linked n numbered class h
+
+pub members_among_stay_in : MembersAmongStayIn
+members_among_stay_in l count ms linked are = members_among_stay l count linked ms are
 
 pub bodies_are_types : BodiesAreTypes
 bodies_are_types l c linked h = (header_bodies_types l linked c h, All-cons (IsTypeScope l) c (header_bodies l c) h (header_bodies_types l linked c h))

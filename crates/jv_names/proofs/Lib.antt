@@ -1,4 +1,5 @@
 pub mod References
+pub mod ReplacingSteps
 pub mod Steps
 pub mod Dots
 pub mod Ending

@@ -35,7 +35,7 @@ use Rattle.jv_names.specs.Access.{type_accessible, member_accessible}
 use Rattle.jv_names.specs.Bodies.{header_bodies, member_bodies}
 use Rattle.jv_names.specs.Instances.{instance_bodies, has_enclosing}
 use Rattle.jv_names.specs.Kinds.{kinds}
-use Rattle.jv_names.specs.Members.{field, methods}
+use Rattle.jv_names.specs.Members.{all_methods, field, members_among, methods}
 use Rattle.jv_names.specs.Names.{type_name, import_context, import_name}
 use Rattle.jv_names.specs.Read.{SignatureOf, signature_of, supers_of, result_fits, ctor_of}
 use Rattle.jv_names.specs.Reference.{reference}
@@ -191,9 +191,20 @@ WrittenTypesStayIn =
 abbrev pub FieldsStayIn : Type 0
 FieldsStayIn = (l : LayoutOf) (count : ℕ) (class : Scope) (n : NameId) → IsTypeScope l class → n.0 < count → StaysIn l count (MeansOnly (IsMemberScope l FIELD)) (field l class n)
 
--- whatever the answers, the rule of the methods of a name in a type asks queries of names alone, and finds methods alone
+-- whatever the answers, the rule of the methods of a name that a type declares or inherits asks queries of names alone, and finds methods alone
+abbrev pub AllMethodsStayIn : Type 0
+AllMethodsStayIn =
+    (l : LayoutOf) (count : ℕ) (class : Scope) (n : NameId) → IsTypeScope l class → n.0 < count → StaysIn l count (EndsOnly (IsMemberScope l METH)) (all_methods l class n)
+
+-- so do, where rows name one another, the rule of those that are members
 abbrev pub MethodsStayIn : Type 0
-MethodsStayIn = (l : LayoutOf) (count : ℕ) (class : Scope) (n : NameId) → IsTypeScope l class → n.0 < count → StaysIn l count (EndsOnly (IsMemberScope l METH)) (methods l class n)
+MethodsStayIn =
+    (l : LayoutOf) (count : ℕ) (class : Scope) (n : NameId) → IsLinked l → IsTypeScope l class → n.0 < count → StaysIn l count (EndsOnly (IsMemberScope l METH)) (methods l class n)
+
+-- and the rule of the members among methods
+abbrev pub MembersAmongStayIn : Type 0
+MembersAmongStayIn =
+    (l : LayoutOf) (count : ℕ) (ms : List Scope) → IsLinked l → All (IsMemberScope l METH) ms → StaysIn l count (All (IsMemberScope l METH)) (members_among l ms)
 
 -- whether a member is accessible
 abbrev pub MemberAccessStaysIn : Type 0

@@ -1,5 +1,5 @@
--- Which members a type inherits (JLS 8.2, 8.4.8, 8.5, 9.2).
-use Rattle.std.specs.Prelude.{◌≡◌, ℕ, ◌<◌, ◌≤◌, List, [], ◌∷◌, Bool, true, not, ◌==◌, Option, Some, None, length, slice_index_or, take}
+-- Which members a type inherits (JLS 8.2, 8.4.8, 8.5, 9.2, 9.4.1).
+use Rattle.std.specs.Prelude.{◌≡◌, ℕ, ◌<◌, ◌≤◌, List, [], ◌∷◌, Bool, true, not, ◌==◌, ◌&&◌, Option, Some, None, length, slice_index_or, take}
 use Rattle.std.specs.List.{list_all}
 use Rattle.sg_base.specs.declared.scope.Scope.{Scope}
 use Rattle.sg_base.specs.declared.step.Step.{Step}
@@ -11,7 +11,7 @@ use Rattle.jv_instance.specs.declared.access.Access.TheVariants.{Public, Protect
 use Rattle.jv_instance.specs.declared.datum.JavaDatum.{JavaDatum}
 use Rattle.jv_instance.specs.declared.labels.TheConstants.{EXT}
 use Rattle.jv_layout.specs.Folder.{LayoutOf}
-use Rattle.jv_layout.specs.Readers.{access_of, package_of}
+use Rattle.jv_layout.specs.Readers.{access_of, is_interface_method_of, is_static_of, package_of}
 
 -- the scopes that steps leave, first to last
 abbrev pub left_by : Scope → List Step → List Scope
@@ -43,10 +43,14 @@ inherited_by l Protected s ps = true
 inherited_by l Package s ps = stays_in_package l s ps
 inherited_by l Private s ps = has_no_super ps
 
+-- the path ends in a static method of an interface and goes to a supertype
+abbrev pub is_stray : LayoutOf → PathOf → Bool
+is_stray l p = (is_interface_method_of l (end_of p.start p.steps) && is_static_of l (end_of p.start p.steps)) && not (has_no_super p.steps)
+
 -- the member at the path's end is a member of the type at its start: a public or protected one, a private one of the type itself, or one of package
--- access where each type on the path lies in the package of the one that declares it
+-- access where each type on the path lies in the package of the one that declares it; but a static method of an interface is one of that interface alone
 abbrev pub is_inherited : LayoutOf → PathOf → Bool
-is_inherited l p = inherited_by l (access_of l (end_of p.start p.steps)) p.start p.steps
+is_inherited l p = not (is_stray l p) && inherited_by l (access_of l (end_of p.start p.steps)) p.start p.steps
 
 -- an index, if there is one, of a path whose steps leave scopes of the declaring one's package alone
 abbrev pub IsStaying : LayoutOf → List (Found JavaDatum) → Option ℕ → Type 0

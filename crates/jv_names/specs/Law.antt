@@ -18,7 +18,7 @@ use Rattle.jv_names.specs.declared.kinds.TheConstants.{ABOVE, METHODS}
 use Rattle.jv_names.specs.Access.{type_accessible, member_accessible}
 use Rattle.jv_names.specs.Instances.{has_enclosing}
 use Rattle.jv_names.specs.Kinds.{asked_by}
-use Rattle.jv_names.specs.Members.{field, find_ends, methods}
+use Rattle.jv_names.specs.Members.{all_methods, field, find_ends, methods}
 use Rattle.jv_names.specs.Names.{type_name, import_name}
 use Rattle.jv_names.specs.Read.{signature_of, supers_of, result_fits, ctor_of}
 use Rattle.jv_names.specs.Replies.{Rule, for_any, for_name}
@@ -50,7 +50,11 @@ TypeAccessReadsOnlyItsQueries = (l : LayoutOf) (file : ℕ) (bodies : List Scope
 abbrev pub FieldsReadOnlyTheirQueries : Type 0
 FieldsReadOnlyTheirQueries = (l : LayoutOf) (class : Scope) (n : NameId) → ReadsOnlyItsQueries (field l class n)
 
--- the rule of the methods of a name in a type looks at a graph by its own queries alone
+-- the rule of the methods of a name that a type declares or inherits looks at a graph by its own queries alone
+abbrev pub InheritedMethodsReadOnlyTheirQueries : Type 0
+InheritedMethodsReadOnlyTheirQueries = (l : LayoutOf) (class : Scope) (n : NameId) → ReadsOnlyItsQueries (all_methods l class n)
+
+-- the rule of the methods of a name that are members of a type looks at a graph by its own queries alone
 abbrev pub MethodsReadOnlyTheirQueries : Type 0
 MethodsReadOnlyTheirQueries = (l : LayoutOf) (class : Scope) (n : NameId) → ReadsOnlyItsQueries (methods l class n)
 

@@ -2,6 +2,7 @@
 use Rattle.std.specs.Prelude.{ℕ, List, [], ◌∷◌, ◌++◌, map, cond}
 use Rattle.sg_base.specs.declared.scope.Scope.{Scope}
 use Rattle.sg_reading.specs.Reading.{done, and_then}
+use Rattle.jv_diag.specs.declared.codes.TheConstants.{AMBIGUOUS_TYPE, INACCESSIBLE_TYPE, TOO_MANY_PATHS, UNKNOWN_TYPE}
 use Rattle.jv_diag.specs.Plain.{DiagOf, diagnostic}
 use Rattle.jv_layout.specs.Folder.{LayoutOf}
 use Rattle.jv_layout.specs.Titles.{title_of}
@@ -27,13 +28,13 @@ reference l file bodies ids =
 -- where a name means no type: it is not found, it is ambiguous, or there were too many paths
 abbrev pub meaning_diags : List (List ℕ) → ℕ → List Ident → Meaning → List DiagOf
 meaning_diags names file ids (One s) = []
-meaning_diags names file ids Nothing = diagnostic file (start_of ids) 20 (written names ids ∷ []) ∷ []
-meaning_diags names file ids Ambiguous = diagnostic file (start_of ids) 21 (written names ids ∷ []) ∷ []
-meaning_diags names file ids TooMany = diagnostic file (start_of ids) 41 (written names ids ∷ []) ∷ []
+meaning_diags names file ids Nothing = diagnostic file (start_of ids) UNKNOWN_TYPE (written names ids ∷ []) ∷ []
+meaning_diags names file ids Ambiguous = diagnostic file (start_of ids) AMBIGUOUS_TYPE (written names ids ∷ []) ∷ []
+meaning_diags names file ids TooMany = diagnostic file (start_of ids) TOO_MANY_PATHS (written names ids ∷ []) ∷ []
 
 -- each type that is not accessible, at the name's first token
 abbrev pub access_diags : LayoutOf → List (List ℕ) → ℕ → List Ident → List Scope → List DiagOf
-access_diags l names file ids ts = map (λ t. diagnostic file (start_of ids) 22 (title_of l names t ∷ [])) ts
+access_diags l names file ids ts = map (λ t. diagnostic file (start_of ids) INACCESSIBLE_TYPE (title_of l names t ∷ [])) ts
 
 -- the diagnostics of a reference
 abbrev pub reference_diags : LayoutOf → List (List ℕ) → ℕ → List Ident → Reference → List DiagOf

@@ -39,7 +39,7 @@ fn is_same_top(l: &Layout, bodies: &[Scope], s: Scope) -> bool
 
 /// Whether a type is another one or among its supertypes.
 #[tactic(auto, using(crate::proofs::Steps::name_steps))]
-fn has_super(
+pub(crate) fn has_super(
     l: &Layout,
     o: &Oracle,
     sub: Scope,

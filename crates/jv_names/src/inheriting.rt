@@ -3,7 +3,7 @@
 ghost use Rattle.std.specs.Prelude.{◌≡◌, ◌<◌, ◌≤◌, true, length, slice_index_or, take};
 ghost use Rattle.sg_query.specs.declared.found.Found.{Found as FoundOf};
 ghost use Rattle.jv_layout.specs.Readers.{package_of};
-ghost use Rattle.jv_names.specs.Inherited.{declarer, has_no_super, lies_in, stays_in_package, inherited_by, is_inherited, IsStaying, AreLeftInside};
+ghost use Rattle.jv_names.specs.Inherited.{declarer, has_no_super, lies_in, stays_in_package, inherited_by, is_stray, is_inherited, IsStaying, AreLeftInside};
 
 use jv_instance::{Access, JavaDatum, labels};
 use jv_layout::Layout;
@@ -54,12 +54,25 @@ fn stays_behind(l: &Layout, path: &PathView<'_>, known: usize) -> bool
     true
 }
 
+/// Whether the path ends in a static method of an interface and goes to a supertype. Only where it ends in one the steps are
+/// looked at.
+fn is_stray(l: &Layout, path: &PathView<'_>) -> bool
+    ensures { result ≡ is_stray l.now path.now }
+{
+    let end = path.end();
+    l.is_interface_method(end) && l.is_static(end) && !has_no_super(path)
+}
+
 /// Whether the member at the path's end is a member of the type at its start (JLS 8.2): it is public or protected; or
 /// private and declared in that type itself; or of package access, and each type on the path lies in the package of the one
-/// that declares it. It takes time in the length of the path, and no memory.
+/// that declares it. A static method of an interface is a member of that interface alone (JLS 8.4.8, 9.4.1). It takes time in
+/// the length of the path, and no memory.
 pub fn inherited(l: &Layout, path: &PathView<'_>) -> bool
     ensures { result ≡ is_inherited l.now path.now }
 {
+    if is_stray(l, path) {
+        return false;
+    }
     match l.access(path.end()) {
         Access::Public => true,
         Access::Protected => true,
@@ -91,7 +104,8 @@ fn known_to_stay(
 }
 
 /// Whether the path at an index is inherited, and an index of a path that stays in one package, where one was given or this
-/// one does. It takes time in the number of its steps behind those that it shares with the given one, and no memory.
+/// one does. It takes time in the number of its steps behind those that it shares with the given one, and in that of all its
+/// steps where it ends in a private member or a static method of an interface, and no memory.
 pub(crate) fn inherited_along(
     l: &Layout,
     paths: &FoundPaths<JavaDatum>,
@@ -104,6 +118,9 @@ pub(crate) fn inherited_along(
     ensures staying { IsStaying l.now paths.now result.1 }
 {
     let path = paths.at(k).path;
+    if is_stray(l, &path) {
+        return (false, staying);
+    }
     match l.access(path.end()) {
         Access::Package => {
             let known = known_to_stay(l, paths, staying, k);

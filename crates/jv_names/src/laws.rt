@@ -1,7 +1,7 @@
 //! Laws of the rules of names, each the contract of a function that does nothing.
 
-ghost use Rattle.jv_names.specs.Bounds.{TypeNamesStayIn, ImportsStayIn, TypeAccessStaysIn, ReferencesStayIn, WrittenTypesStayIn, FieldsStayIn, MethodsStayIn, MemberAccessStaysIn, SignaturesAskIn, CtorsAskIn, SupersAskIn, ResultsAskIn, SuperclassesAskIn, InstancesAskIn, BodiesAreTypes, InstanceBodiesAreTypes};
-ghost use Rattle.jv_names.specs.Law.{TypeNamesReadOnlyTheirQueries, ImportsReadOnlyTheirQueries, TypeAccessReadsOnlyItsQueries, FieldsReadOnlyTheirQueries, MethodsReadOnlyTheirQueries, MethodsAboveReadOnlyTheirQueries, AllMethodsReadOnlyTheirQueries, MemberAccessReadsOnlyItsQueries, WrittenTypesReadOnlyTheirQueries, ReadSignaturesReadOnlyTheirQueries, CtorsReadOnlyTheirQueries, SupersReadOnlyTheirQueries, ResultsReadOnlyTheirQueries, SuperclassesReadOnlyTheirQueries, InstancesReadOnlyTheirQueries};
+ghost use Rattle.jv_names.specs.Bounds.{TypeNamesStayIn, ImportsStayIn, TypeAccessStaysIn, ReferencesStayIn, WrittenTypesStayIn, FieldsStayIn, AllMethodsStayIn, MethodsStayIn, MembersAmongStayIn, MemberAccessStaysIn, SignaturesAskIn, CtorsAskIn, SupersAskIn, ResultsAskIn, SuperclassesAskIn, InstancesAskIn, BodiesAreTypes, InstanceBodiesAreTypes};
+ghost use Rattle.jv_names.specs.Law.{TypeNamesReadOnlyTheirQueries, ImportsReadOnlyTheirQueries, TypeAccessReadsOnlyItsQueries, FieldsReadOnlyTheirQueries, InheritedMethodsReadOnlyTheirQueries, MethodsReadOnlyTheirQueries, MethodsAboveReadOnlyTheirQueries, AllMethodsReadOnlyTheirQueries, MemberAccessReadsOnlyItsQueries, WrittenTypesReadOnlyTheirQueries, ReadSignaturesReadOnlyTheirQueries, CtorsReadOnlyTheirQueries, SupersReadOnlyTheirQueries, ResultsReadOnlyTheirQueries, SuperclassesReadOnlyTheirQueries, InstancesReadOnlyTheirQueries};
 
 /// The meaning of the name of a type looks at a graph only by the queries that it asks.
 pub fn resolve_type_reads_only_its_queries()
@@ -23,7 +23,12 @@ pub fn find_field_reads_only_its_queries()
     ensures { FieldsReadOnlyTheirQueries }
 {}
 
-/// The methods of a name look at a graph only by the query that they ask.
+/// The methods of a name that a type declares or inherits look at a graph only by the query that they ask.
+pub fn all_methods_read_only_their_queries()
+    ensures { InheritedMethodsReadOnlyTheirQueries }
+{}
+
+/// The methods of a name that are members of a type look at a graph only by the queries that they ask.
 pub fn find_methods_reads_only_its_queries()
     ensures { MethodsReadOnlyTheirQueries }
 {}
@@ -61,9 +66,12 @@ pub fn rules_ask_in_the_layout()
 
 /// Whatever the answers, the rules of members ask queries of names alone, from types of the layout: the field and the methods
 /// of a name in a type, and whether a member is accessible through a type. What they find are fields and methods of the layout.
+/// Which methods are members is asked so in a layout whose rows name one another.
 pub fn member_rules_ask_in_the_layout()
     ensures fields { FieldsStayIn }
+    ensures all_methods { AllMethodsStayIn }
     ensures methods { MethodsStayIn }
+    ensures members { MembersAmongStayIn }
     ensures access { MemberAccessStaysIn }
 {}
 

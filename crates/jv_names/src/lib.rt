@@ -35,6 +35,7 @@ mod qualifier;
 mod queries;
 mod read;
 mod reference;
+mod replacing;
 mod resolved;
 mod results;
 mod scope_list;
@@ -60,12 +61,16 @@ pub use inheriting::inherited;
 pub use instances::{instance_bodies, read_has_enclosing};
 pub use kind_table::java_kinds;
 pub use meaning::Meaning;
-pub use members::{find_ends, find_field, find_methods, object_methods, read_field, read_methods};
+pub use members::{
+    all_methods, find_ends, find_field, find_methods, object_methods, read_all_methods, read_field,
+    read_methods,
+};
 pub use oracle::Oracle;
 pub use qualifier::Qualifier;
 pub use queries::{for_any, for_name, member_type, package_type, subpackage};
 pub use read::{read_ctor_of, read_signature_of};
 pub use reference::{Reference, add_reference, read_reference};
+pub use replacing::read_members_among;
 pub use resolved::Resolved;
 pub use results::read_result_fits;
 pub use scope_list::ScopeList;

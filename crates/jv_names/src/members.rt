@@ -2,7 +2,7 @@
 
 ghost use Rattle.std.specs.Prelude.{◌≡◌, IfOk};
 ghost use Rattle.sg_reading.specs.Stop.{Reads, IsKnown};
-ghost use Rattle.jv_names.specs.Members.{find_ends, field, methods, is_method_named, object_methods};
+ghost use Rattle.jv_names.specs.Members.{find_ends, field, all_methods, with_members, methods, is_method_named, object_methods};
 ghost use Rattle.jv_names.specs.Replies.{reply_to};
 
 use crate::answers::answer_ends;
@@ -12,6 +12,7 @@ use crate::kinds;
 use crate::meaning::Meaning;
 use crate::oracle::Oracle;
 use crate::queries::{ask, for_name, look_up};
+use crate::replacing::read_members_among;
 use crate::scope_list::ScopeList;
 use jv_instance::{JavaPred, labels};
 use jv_layout::Layout;
@@ -49,7 +50,46 @@ pub fn read_field(
     look_up(l, o, Counts::Fields, for_name(kinds::FIELDS, class, name))
 }
 
-/// The methods of a name in a type as far as the replies tell it, or the query that has no reply.
+/// The methods of a name that a type declares or inherits as far as the replies tell it, or the query that has no reply.
+pub fn read_all_methods(
+    alloc: Global,
+    l: &Layout,
+    o: &Oracle,
+    class: Scope,
+    name: NameId,
+) -> Result<Ends, Stop<Query<JavaPred>>>
+    ensures { Reads (reply_to o.now) (all_methods l.now class name) result }
+{
+    find_ends(
+        alloc,
+        l,
+        o,
+        Counts::Methods,
+        for_name(kinds::METHODS, class, name),
+    )
+}
+
+/// The members among the methods, where there are not too many paths.
+#[tactic(auto, using(crate::proofs::ReplacingSteps::replacing_steps))]
+fn read_with_members(
+    alloc: Global,
+    l: &Layout,
+    o: &Oracle,
+    ends: Ends,
+) -> Result<Ends, Stop<Query<JavaPred>>>
+    ensures { Reads (reply_to o.now) (with_members l.now ends) result }
+{
+    match ends {
+        Ends::TooMany => Ok(Ends::TooMany),
+        Ends::Scopes(methods) => {
+            let members = read_members_among(alloc, l, o, methods.as_slice())?;
+            Ok(Ends::Scopes(members))
+        }
+    }
+}
+
+/// The methods of a name that are members of a type as far as the replies tell it, or the first query that has no reply.
+#[tactic(auto, using(crate::proofs::ReplacingSteps::replacing_steps))]
 pub fn read_methods(
     alloc: Global,
     l: &Layout,
@@ -59,13 +99,8 @@ pub fn read_methods(
 ) -> Result<Ends, Stop<Query<JavaPred>>>
     ensures { Reads (reply_to o.now) (methods l.now class name) result }
 {
-    find_ends(
-        alloc,
-        l,
-        o,
-        Counts::Methods,
-        for_name(kinds::METHODS, class, name),
-    )
+    let ends = read_all_methods(alloc, l, o, class, name)?;
+    read_with_members(alloc, l, o, ends)
 }
 
 /// The field of a name that a type declares or inherits (JLS 8.3, 9.3): one, several, or none. It takes the time of the ends
@@ -82,8 +117,25 @@ pub fn find_field(
     Known::from_found(read_field(l, o, class, name))
 }
 
-/// The methods of a name that a type declares or inherits (JLS 8.4.8, 9.4.1), in rising order. It takes the time of the ends
-/// that the answer gives.
+/// The methods of a name that a type declares or inherits (JLS 8.4.8, 9.4.1), in rising order, those with them for which others
+/// stand. It takes the time of the ends that the answer gives.
+#[tactic(auto, using(crate::proofs::Steps::name_steps))]
+pub fn all_methods(
+    alloc: Global,
+    l: &Layout,
+    o: &Oracle,
+    class: Scope,
+    name: NameId,
+) -> Result<Known<Ends, Query<JavaPred>>, AllocError>
+    ensures { IfOk result (IsKnown (reply_to o.now) (all_methods l.now class name)) }
+{
+    Known::from_found(read_all_methods(alloc, l, o, class, name))
+}
+
+/// The methods of a name that are members of a type (JLS 8.4.8, 9.4.1), in rising order: those that it declares or inherits, but
+/// no method of an interface for which another one stands, that is no static one: one of a class that is not abstract, or one of
+/// a subtype of the interface. It takes the time of the ends that the answer gives, and for each pair of methods of which one is
+/// an interface's that of a look into the supertypes of the other's type.
 #[tactic(auto, using(crate::proofs::Steps::name_steps))]
 pub fn find_methods(
     alloc: Global,

@@ -14,7 +14,7 @@ use crate::scope_list::ScopeList;
 use crate::spot::Spot;
 use crate::type_names::read_type;
 use crate::writing::{start_of, written};
-use jv_diag::DiagList;
+use jv_diag::{DiagList, codes};
 use jv_instance::JavaPred;
 use jv_layout::Layout;
 use jv_tree::{Ident, Name, Names};
@@ -86,9 +86,9 @@ fn add_meaning(
 {
     let code = match meaning {
         Meaning::One(_) => return Ok(()),
-        Meaning::Nothing => 20,
-        Meaning::Ambiguous => 21,
-        Meaning::TooMany => 41,
+        Meaning::Nothing => codes::UNKNOWN_TYPE,
+        Meaning::Ambiguous => codes::AMBIGUOUS_TYPE,
+        Meaning::TooMany => codes::TOO_MANY_PATHS,
     };
     let text = written(alloc, names, ids)?;
     diags.add(alloc, file, start_of(ids), code, &[text.as_str()])
@@ -108,7 +108,13 @@ fn add_refused(
 {
     for ty in types {
         let title = l.title(alloc, names, *ty)?;
-        diags.add(alloc, file, start_of(ids), 22, &[title.as_str()])?;
+        diags.add(
+            alloc,
+            file,
+            start_of(ids),
+            codes::INACCESSIBLE_TYPE,
+            &[title.as_str()],
+        )?;
     }
     Ok(())
 }

@@ -2,6 +2,8 @@
 #![tactic(auto)]
 
 #[cfg(test)]
+mod default_folder;
+#[cfg(test)]
 mod name_tests;
 #[cfg(test)]
 mod read_tests;

@@ -1,14 +1,16 @@
 //! Names in the small folder, worked out by hand: one of each call, replies that no graph gives, and replies that are missing. What names
 //! mean stands in `tests/bodies`.
 
-use crate::small_folder::{A, M, P, X, ident, scope, small_graph, small_layout, small_names};
+use crate::default_folder::{default_folder, default_graph, default_layout};
+use crate::small_folder::{A, F, G, M, P, X, ident, scope, small_graph, small_layout, small_names};
 use crate::small_replies::{SmallFolder, put_reply, small_folder};
 use jv_instance::{JavaDatum, JavaPred, Ty, TypeBase, labels};
 use jv_layout::Layout;
-use jv_names::kinds::{self, FILETYPE, MEMTYPE, OWNTYPE, SUBPKG};
+use jv_names::kinds::{self, FILETYPE, MEMTYPE, METHODS, OWNTYPE, SUBPKG, SUPERS};
 use jv_names::{
-    Ends, Meaning, Oracle, Resolved, Spot, WrittenType, accessible, find_field, find_methods,
-    java_kinds, resolve_import, resolve_type, resolve_written_type, type_accessible,
+    Ends, Meaning, Oracle, Resolved, Spot, WrittenType, accessible, all_methods, find_field,
+    find_methods, for_any, for_name, java_kinds, read_members_among, resolve_import, resolve_type,
+    resolve_written_type, type_accessible,
 };
 use jv_tree::{Base, Import, Name, NameId, Names, TypeRef};
 use sg_base::{Label, Scope, Step};
@@ -334,6 +336,167 @@ fn wrong_turn(alloc: Global, layout: &Layout) -> Result<Option<u8>, Fail> {
 #[test]
 fn missing_replies_are_named_in_turn(rt: HostRuntime) -> Result<(), Fail> {
     let wrong = wrong_turn(rt.alloc(), &small_layout(rt.alloc())?)?;
+    assert_eq!(rt; wrong, None);
+    Ok(())
+}
+
+/// The serials of methods.
+fn put_methods(text: &mut String, methods: &[Scope]) -> Result<(), Fail> {
+    for method in methods {
+        write!(text, "{} ", method.serial)?;
+    }
+    Ok(())
+}
+
+/// The serials of methods that were found.
+fn ends_told(alloc: Global, ends: &Ends) -> Result<String, Fail> {
+    let mut text = String::new(alloc);
+    match ends {
+        Ends::Scopes(methods) => put_methods(&mut text, methods.as_slice())?,
+        Ends::TooMany => write!(text, "too many")?,
+    }
+    Ok(text)
+}
+
+/// Whether a type declares or inherits these methods of a name.
+fn has_all_methods(
+    alloc: Global,
+    small: &SmallFolder,
+    class: u32,
+    number: u32,
+    wanted: &str,
+) -> Result<bool, Fail> {
+    let name = NameId(number);
+    let found = all_methods(alloc, &small.layout, &small.oracle, scope(class), name)?;
+    let text = ends_told(alloc, &known(found)?)?;
+    Ok(text.as_str() == wanted)
+}
+
+/// Whether a type has these methods of a name as members.
+fn has_members(
+    alloc: Global,
+    small: &SmallFolder,
+    class: u32,
+    number: u32,
+    wanted: &str,
+) -> Result<bool, Fail> {
+    let name = NameId(number);
+    let found = find_methods(alloc, &small.layout, &small.oracle, scope(class), name)?;
+    let text = ends_told(alloc, &known(found)?)?;
+    Ok(text.as_str() == wanted)
+}
+
+/// A type, a name, the methods of that name that the type declares or inherits, and its members among them.
+type MethodsOfName = (u32, u32, &'static str, &'static str);
+
+/// The first of the types and names whose methods or members are others.
+fn wrong_methods(
+    alloc: Global,
+    small: &SmallFolder,
+    cases: &[MethodsOfName],
+) -> Result<Option<(u32, u32)>, Fail> {
+    for (class, number, all, members) in cases {
+        if !has_all_methods(alloc, small, *class, *number, *all)?
+            || !has_members(alloc, small, *class, *number, *members)?
+        {
+            return Ok(Some((*class, *number)));
+        }
+    }
+    Ok(None)
+}
+
+/// `J.f` stands for `I.f` in `A` and hides it in `J`, `C.f` stands for it in `D`, and in `B` it stays beside `K.f`.
+const DEFAULTS: [MethodsOfName; 4] = [
+    (13, F, "19 21 ", "21 "),
+    (14, F, "19 22 ", "19 22 "),
+    (16, F, "19 26 ", "26 "),
+    (11, F, "21 ", "21 "),
+];
+
+/// The members among methods of one name.
+fn members_told(alloc: Global, small: &SmallFolder, methods: &[Scope]) -> Result<String, Fail> {
+    let mut text = String::new(alloc);
+    match read_members_among(alloc, &small.layout, &small.oracle, methods) {
+        Ok(members) => put_methods(&mut text, members.as_slice())?,
+        Err(_) => write!(text, "a reply is missing")?,
+    }
+    Ok(text)
+}
+
+#[test]
+fn replaced_defaults_are_no_members(rt: HostRuntime) -> Result<(), Fail> {
+    let small = default_folder(rt.alloc())?;
+    assert_eq!(rt; wrong_methods(rt.alloc(), &*small, &DEFAULTS)?, None);
+    let members = members_told(rt.alloc(), &*small, &[scope(19), scope(21), scope(22)])?;
+    assert_eq!(rt; members.as_str(), "21 22 ");
+    Ok(())
+}
+
+/// `I.g` is a member of `I` alone.
+const STATIC_METHODS: [MethodsOfName; 3] = [
+    (10, G, "20 ", "20 "),
+    (11, G, "", ""),
+    (13, G, "", ""),
+];
+
+#[test]
+fn static_methods_of_interfaces_are_not_inherited(rt: HostRuntime) -> Result<(), Fail> {
+    let wrong = wrong_methods(rt.alloc(), &*default_folder(rt.alloc())?, &STATIC_METHODS)?;
+    assert_eq!(rt; wrong, None);
+    Ok(())
+}
+
+/// Whether the members `f` of `A` come to a query, and it is the wanted one.
+fn members_ask_for(
+    alloc: Global,
+    layout: &Layout,
+    oracle: &Oracle,
+    wanted: &Query<JavaPred>,
+) -> Result<bool, Fail> {
+    match find_methods(alloc, layout, oracle, scope(13), NameId(F))? {
+        Known::Is(_) => Ok(false),
+        Known::Need(query) => Ok(query == *wanted),
+    }
+}
+
+/// Whether the members `f` of `A` ask for this query, whose reply is put then.
+fn members_ask_in_turn(
+    alloc: Global,
+    layout: &Layout,
+    oracle: &mut Oracle,
+    query: Query<JavaPred>,
+) -> Result<bool, Fail> {
+    let asks = members_ask_for(alloc, layout, oracle, &query)?;
+    let graph = default_graph(alloc)?;
+    let table = java_kinds(alloc)?;
+    put_reply(alloc, &graph, &table, oracle, query)?;
+    Ok(asks)
+}
+
+/// The queries that the members `f` of `A` ask, in turn: for `I.f` and `J.f`, and for the supertypes of the other one's type.
+fn member_queries(alloc: Global) -> Result<Vec<Query<JavaPred>>, Fail> {
+    Ok(vec![in alloc;
+        for_name(METHODS, scope(13), NameId(F)),
+        for_any(SUPERS, scope(11)),
+        for_any(SUPERS, scope(10)),
+    ]?)
+}
+
+/// The kind and the start of the first query that is not asked in its turn.
+fn wrong_member_query(alloc: Global, layout: &Layout) -> Result<Option<(u8, u32)>, Fail> {
+    let mut oracle = Oracle::new(alloc);
+    for query in member_queries(alloc)? {
+        let asked = (query.kind, query.start.serial);
+        if !members_ask_in_turn(alloc, layout, &mut oracle, query)? {
+            return Ok(Some(asked));
+        }
+    }
+    Ok(None)
+}
+
+#[test]
+fn members_ask_for_supertypes(rt: HostRuntime) -> Result<(), Fail> {
+    let wrong = wrong_member_query(rt.alloc(), &default_layout(rt.alloc())?)?;
     assert_eq!(rt; wrong, None);
     Ok(())
 }

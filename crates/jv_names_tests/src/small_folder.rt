@@ -23,8 +23,9 @@ use std::alloc::{AllocError, Global};
 use std::test::Fail;
 
 /// The texts of the names, by their numbers.
-const TEXTS: [&str; 13] = [
-    "java", "lang", "Object", "String", "p", "q", "A", "B", "C", "M", "x", "y", "z",
+const TEXTS: [&str; 19] = [
+    "java", "lang", "Object", "String", "p", "q", "A", "B", "C", "M", "x", "y", "z", "D", "I", "J",
+    "K", "f", "g",
 ];
 
 pub const JAVA: u32 = 0;
@@ -53,6 +54,19 @@ pub const X: u32 = 10;
 pub const Y: u32 = 11;
 
 pub const Z: u32 = 12;
+
+/// The first of the names that `default_folder` alone has.
+pub const D: u32 = 13;
+
+pub const I: u32 = 14;
+
+pub const J: u32 = 15;
+
+pub const K: u32 = 16;
+
+pub const F: u32 = 17;
+
+pub const G: u32 = 18;
 
 /// The scope with a serial.
 pub fn scope(serial: u32) -> Scope {
@@ -83,7 +97,8 @@ fn field_of(alloc: Global, words: &[u8], number: u32) -> Result<Member, AllocErr
     Ok(field_member(mods(alloc, words)?, type_ref(0, Base::Int, 0), variables))
 }
 
-fn method_of(alloc: Global, words: &[u8], number: u32) -> Result<Member, AllocError>
+/// A method without parameters and body whose result is `int`.
+pub fn method_of(alloc: Global, words: &[u8], number: u32) -> Result<Member, AllocError>
     ensures { IfOk result (λ m. (rest : MemberTrees) → body_names (members (member_tree m) rest) ≡ 1 + body_names rest) }
 {
     let ty = type_ref(0, Base::Int, 0);
@@ -97,6 +112,22 @@ fn method_of(alloc: Global, words: &[u8], number: u32) -> Result<Member, AllocEr
     Ok(method_member(of))
 }
 
+/// A class or an interface, whose tree names no supertypes.
+pub fn type_of(
+    alloc: Global,
+    words: &[u8],
+    number: u32,
+    interface: bool,
+    members: Vec<Member>,
+) -> Result<TypeDecl, AllocError>
+    ensures { IfOk result (λ d. decl_names (type_decl_tree d) ≡ 1 + body_names (member_trees members.items)) }
+{
+    let mods = mods(alloc, words)?;
+    let extends = vec![in alloc]?;
+    let implements = vec![in alloc]?;
+    Ok(class_or_interface(ident(number), mods, interface, extends, implements, members))
+}
+
 fn class_of(
     alloc: Global,
     words: &[u8],
@@ -105,10 +136,7 @@ fn class_of(
 ) -> Result<TypeDecl, AllocError>
     ensures { IfOk result (λ d. decl_names (type_decl_tree d) ≡ 1 + body_names (member_trees members.items)) }
 {
-    let mods = mods(alloc, words)?;
-    let extends = vec![in alloc]?;
-    let implements = vec![in alloc]?;
-    Ok(class_or_interface(ident(number), mods, false, extends, implements, members))
+    type_of(alloc, words, number, false, members)
 }
 
 fn member_class(alloc: Global, words: &[u8], number: u32) -> Result<Member, AllocError>
@@ -147,21 +175,23 @@ fn class_a(alloc: Global) -> Result<TypeDecl, AllocError>
     Ok(class)
 }
 
-fn empty_class(alloc: Global, words: &[u8], number: u32) -> Result<TypeDecl, AllocError>
+/// A class without members.
+pub fn empty_class(alloc: Global, words: &[u8], number: u32) -> Result<TypeDecl, AllocError>
     ensures { IfOk result (λ d. decl_names (type_decl_tree d) < 100) }
 {
     let class = class_of(alloc, words, number, Vec::new(alloc))?;
     Ok(class)
 }
 
-fn file_of(alloc: Global, clause: Name, types: Vec<TypeDecl>) -> Unit
+/// A file of a package without imports.
+pub fn file_of(alloc: Global, clause: Name, types: Vec<TypeDecl>) -> Unit
     ensures { unit_names (tree_of result) ≡ length clause.ids.items + sum_by decl_names (map type_decl_tree types.items) }
 {
     unit(Some(clause), Vec::new(alloc), types)
 }
 
 /// A file of `java.lang` with a public class.
-fn lang_file(alloc: Global, number: u32) -> Result<Unit, AllocError>
+pub fn lang_file(alloc: Global, number: u32) -> Result<Unit, AllocError>
     ensures { IfOk result (λ u. unit_names (tree_of u) < 1000) }
 {
     let ids = vec![in alloc; ident(JAVA), ident(LANG)]?;
@@ -262,7 +292,8 @@ const TYPES: [(u32, u32); 6] = [
 
 const MEMBERS: [(u32, u32); 4] = [(19, X), (20, Y), (21, Z), (22, M)];
 
-fn set_datum(
+/// Sets the datum of a scope, where the scope is there and has none.
+pub fn set_datum(
     graph: &mut Graph<JavaDatum>,
     serial: u32,
     datum: JavaDatum,
@@ -308,7 +339,8 @@ fn set_data(graph: &mut Graph<JavaDatum>) -> Result<(), AllocError> {
     Ok(())
 }
 
-fn add_edge(
+/// Adds an edge, where its label and its scopes are there.
+pub fn add_edge(
     graph: &mut Graph<JavaDatum>,
     from: Scope,
     label: u8,

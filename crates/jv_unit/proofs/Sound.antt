@@ -267,7 +267,7 @@ module _ (w : FolderOf) (h : IsFolderOf w) where
       check_asks blanks (overriding m) k =
           in_plan (overriding_rule w t m)
           (overrides_ask w.layout (length w.names) w.names c h.linked is_type (name_of decl) (member_scope w.layout m) (own_at w.files m) (member_listed m k) (own_numbered m (member_below w.layout t m k)))
-      check_asks blanks meeting k = in_plan (meeting_rule w t) (inherited_asks w.layout (length w.names) w.names c (name_of decl) is_type)
+      check_asks blanks meeting k = in_plan (meeting_rule w t) (inherited_asks w.layout (length w.names) w.names c (name_of decl) h.linked is_type)
       check_asks blanks (calling m) k =
           in_plan (calling_rule w t m)
           (ctor_rule_asks w.layout (length w.names) w.names c h.linked is_type (extends_of decl) (extends_numbered (length w.names) decl numbered) (own_at w.files m))

@@ -2,6 +2,7 @@
 use Rattle.std.specs.Prelude.{◌≡◌, ℕ, List, [], ◌∷◌, length}
 use Rattle.std.specs.List.{Contains}
 use Rattle.sg_base.specs.declared.scope.Scope.{Scope}
+use Rattle.jv_diag.specs.declared.codes.TheConstants.{WAITING_HEADER}
 use Rattle.jv_diag.specs.Plain.{DiagOf, diagnostic}
 use Rattle.jv_layout.specs.Readers.{file_of, types_of}
 use Rattle.jv_layout.specs.Titles.{title_of}
@@ -12,7 +13,7 @@ use Rattle.sc_app.specs.FolderRun.{JavaCore, IsFolderRun}
 -- a line says of a type that its header waits for that of another type
 pub record SaysWaiting (w : FolderOf) (c other : Scope) (d : DiagOf) : Type 0 where
   pub at : ℕ
-  pub line : d ≡ diagnostic (file_of w.layout c) at 30 (title_of w.layout w.names c ∷ title_of w.layout w.names other ∷ [])
+  pub line : d ≡ diagnostic (file_of w.layout c) at WAITING_HEADER (title_of w.layout w.names c ∷ title_of w.layout w.names other ∷ [])
 
 -- the type that a line names second is one whose header waits for another's, by a line of its own among these
 pub record NamesCircular (w : FolderOf) (ds : List DiagOf) (d : DiagOf) : Type 0 where
