@@ -10,7 +10,7 @@ use Rattle.jv_grammar.specs.DeclGrammar.{DerivesMods, mods_none, mods_more, Deri
 use Rattle.jv_grammar.specs.DeclReader.{calls, begins_type, typed_of, plain_of}
 use Rattle.jv_grammar.specs.TypeBegins.{BeginsName, begun_name_none, begun_name_more, begun_name_whole, begun_base_none, begun_base_name, begun_base_whole, BeginsTy, begun_ty_none, begun_ty_base, begun_ty_pairs, begun_ty_whole, BeginsResult, begun_result_none, begun_result_ty, begun_result_whole}
 use Rattle.jv_grammar.specs.StmtBegins.{BeginsVar, begun_var_none, begun_var_init, begun_var_whole, BeginsVars, begun_vars_none, begun_vars_one, begun_vars_more, begun_vars_whole}
-use Rattle.jv_grammar.specs.DeclBegins.{BeginsParam, begun_param_none, begun_param_ty, begun_param_final, begun_param_whole, BeginsSomeParams, begun_some_params_none, begun_some_params_one, begun_some_params_more, begun_some_params_whole, BeginsConstants, begun_constants_none, begun_constants_name, begun_constants_one, begun_constants_more, begun_constants_whole, BeginsType, begun_type_none, begun_type_class, begun_type_interface, begun_type_whole, BeginsClass, begun_class_none, begun_class_word, begun_class_parent, begun_class_interfaces, begun_class_members, begun_class_whole, BeginsInterface, begun_interface_none, begun_interface_word, begun_interface_parents, begun_interface_members, begun_interface_whole, BeginsMember, begun_member_none, begun_member_type, begun_member_result, begun_member_vars, begun_member_params, begun_member_body, begun_member_ctor_params, begun_member_ctor, begun_member_whole, BeginsImember, begun_imember_none, begun_imember_type, begun_imember_result, begun_imember_constants, begun_imember_params, begun_imember_whole, BeginsTypes, begun_types_none, begun_types_one, begun_types_more, begun_types_empty, begun_types_whole}
+use Rattle.jv_grammar.specs.DeclBegins.{BeginsParam, begun_param_none, begun_param_ty, begun_param_final, begun_param_whole, BeginsSomeParams, begun_some_params_none, begun_some_params_one, begun_some_params_more, begun_some_params_whole, BeginsConstants, begun_constants_none, begun_constants_name, begun_constants_one, begun_constants_more, begun_constants_whole, BeginsType, begun_type_none, begun_type_class, begun_type_interface, begun_type_whole, BeginsClass, begun_class_none, begun_class_word, begun_class_parent, begun_class_interfaces, begun_class_members, begun_class_whole, BeginsInterface, begun_interface_none, begun_interface_word, begun_interface_parents, begun_interface_members, begun_interface_whole, BeginsMember, begun_member_none, begun_member_type, begun_member_result, begun_member_vars, begun_member_params, begun_member_body, begun_member_ctor_params, begun_member_ctor, begun_member_whole, BeginsImember, begun_imember_none, begun_imember_type, begun_imember_result, begun_imember_constants, begun_imember_params, begun_imember_body, begun_imember_whole, BeginsTypes, begun_types_none, begun_types_one, begun_types_more, begun_types_empty, begun_types_whole}
 use Rattle.jv_grammar.proofs.Read.{Each}
 use Rattle.jv_grammar.proofs.DeclStarts.{starts_mod, begins_word, word_no_mark, ident_no_mark, mods_word, mods_no_word, ty_begins, ty_no_final, ty_calls, ty_plain, result_begins, vars_begin, constants_begin, type_word, member_word, imember_word, type_no_word}
 use Rattle.jv_grammar.proofs.DeclComplete.{types_no_word}
@@ -182,6 +182,7 @@ begun_imember (begun_imember_type r) = begun_type r
 begun_imember (begun_imember_result m r) = mods_begun m (result_word r)
 begun_imember (begun_imember_constants {xs} m d r) = word_is xs (mods_word m (ty_begins d).2)
 begun_imember (begun_imember_params {xs} m d r) = word_is xs (mods_word m (result_begins d).2)
+begun_imember (begun_imember_body {xs} m d q r) = word_is xs (mods_word m (result_begins d).2)
 begun_imember (begun_imember_whole {xs} d) = word_is xs (imember_word d)
 
 -- types begin with no `package` and no `import`
@@ -209,8 +210,8 @@ begun_type_no_word w e h h' (begun_type_whole d) = type_no_word w e h h' d
 pub begun_types_no_word : {xs : List Terminal} → BeginsTypes xs → (starts_word word_package xs ≡ false) × (starts_word word_import xs ≡ false)
 begun_types_no_word begun_types_none = (refl, refl)
 begun_types_no_word (begun_types_one r) =
-    (begun_type_no_word word_package (refl, (refl, (refl, (refl, (refl, (refl, tt)))))) refl refl r, begun_type_no_word word_import (refl, (refl, (refl, (refl, (refl, (refl, tt)))))) refl refl r)
+    (begun_type_no_word word_package (refl, (refl, (refl, (refl, (refl, (refl, (refl, tt))))))) refl refl r, begun_type_no_word word_import (refl, (refl, (refl, (refl, (refl, (refl, (refl, tt))))))) refl refl r)
 begun_types_no_word (begun_types_more d r) =
-    (type_no_word word_package (refl, (refl, (refl, (refl, (refl, (refl, tt)))))) refl refl d, type_no_word word_import (refl, (refl, (refl, (refl, (refl, (refl, tt)))))) refl refl d)
+    (type_no_word word_package (refl, (refl, (refl, (refl, (refl, (refl, (refl, tt))))))) refl refl d, type_no_word word_import (refl, (refl, (refl, (refl, (refl, (refl, (refl, tt))))))) refl refl d)
 begun_types_no_word (begun_types_empty r) = (refl, refl)
 begun_types_no_word (begun_types_whole d) = types_no_word d

@@ -3,7 +3,7 @@ use Rattle.std.specs.Prelude.{List, max, suc, ℕ}
 use Rattle.jv_grammar.specs.declared.terminal.Terminal.{Terminal}
 use Rattle.jv_grammar.specs.ExprBegins.{BeginsExpr, begun_expr_none, begun_expr_assign, begun_expr_cond, begun_expr_whole, BeginsCond, begun_cond_none, begun_cond_bin, begun_cond_yes, begun_cond_no, begun_cond_whole, BeginsBin, begun_bin_none, begun_bin_unary, begun_bin_one, begun_bin_chain, begun_bin_whole, BeginsLinks, begun_links_none, begun_links_one, begun_links_more, begun_links_whole, BeginsLink, begun_link_none, begun_link_operand, begun_link_type, begun_link_whole, BeginsUnary, begun_unary_none, begun_unary_sign, begun_unary_step, begun_unary_cast, begun_unary_post, begun_unary_whole, BeginsCast, begun_cast_none, begun_cast_type, begun_cast_prim, begun_cast_reference, begun_cast_whole, BeginsPlain, begun_plain_none, begun_plain_sign, begun_plain_cast, begun_plain_post, begun_plain_whole, BeginsPost, begun_post_none, begun_post_primary, begun_post_whole, BeginsPrimary, begun_primary_none, begun_primary_head, begun_primary_dot, begun_primary_call, begun_primary_index, begun_primary_whole, BeginsHead, begun_head_none, begun_head_paren, begun_head_name, begun_head_call, begun_head_super, begun_head_super_dot, begun_head_super_call, begun_head_new, begun_head_new_args, begun_head_new_dims, begun_head_new_pairs, begun_head_new_list, begun_head_whole, BeginsDims, begun_dims_none, begun_dims_size, begun_dims_more, begun_dims_pairs, begun_dims_whole, BeginsArgs, begun_args_none, begun_args_some, begun_args_whole, BeginsExprs, begun_exprs_none, begun_exprs_one, begun_exprs_more, begun_exprs_whole, BeginsInit, begun_init_none, begun_init_expr, begun_init_list, begun_init_whole, BeginsList, begun_list_none, begun_list_empty, begun_list_some, begun_list_end, begun_list_whole, BeginsInits, begun_inits_none, begun_inits_one, begun_inits_more, begun_inits_whole}
 use Rattle.jv_grammar.specs.StmtBegins.{BeginsVar, begun_var_none, begun_var_init, begun_var_whole, BeginsVars, begun_vars_none, begun_vars_one, begun_vars_more, begun_vars_whole, BeginsLocal, begun_local_none, begun_local_ty, begun_local_vars, begun_local_final_ty, begun_local_final_vars, begun_local_whole, BeginsEffects, begun_effects_none, begun_effects_one, begun_effects_more, begun_effects_whole, BeginsFirst, begun_first_none, begun_first_local, begun_first_effects, begun_first_whole, BeginsOptional, begun_optional_none, begun_optional_some, begun_optional_whole, BeginsUpdates, begun_updates_none, begun_updates_some, begun_updates_whole, BeginsBlock, begun_block_none, begun_block_some, begun_block_whole, BeginsBstmts, begun_bstmts_none, begun_bstmts_one, begun_bstmts_more, begun_bstmts_whole, BeginsBstmt, begun_bstmt_none, begun_bstmt_local, begun_bstmt_stmt, begun_bstmt_whole, BeginsStmt, begun_stmt_none, begun_stmt_block, begun_stmt_effect, begun_stmt_if, begun_stmt_if_test, begun_stmt_if_then, begun_stmt_if_else, begun_stmt_while, begun_stmt_while_test, begun_stmt_while_body, begun_stmt_do, begun_stmt_do_while, begun_stmt_do_test, begun_stmt_do_close, begun_stmt_for, begun_stmt_for_first, begun_stmt_for_test, begun_stmt_for_updates, begun_stmt_for_body, begun_stmt_return, begun_stmt_break, begun_stmt_continue, begun_stmt_whole}
-use Rattle.jv_grammar.specs.DeclBegins.{BeginsBody, begun_body_none, begun_body_block, begun_body_whole, BeginsCtor, begun_ctor_none, begun_ctor_plain, begun_ctor_args, begun_ctor_super, begun_ctor_whole, BeginsConstants, begun_constants_none, begun_constants_name, begun_constants_one, begun_constants_more, begun_constants_whole, BeginsType, begun_type_none, begun_type_class, begun_type_interface, begun_type_whole, BeginsClass, begun_class_none, begun_class_word, begun_class_parent, begun_class_interfaces, begun_class_members, begun_class_whole, BeginsInterface, begun_interface_none, begun_interface_word, begun_interface_parents, begun_interface_members, begun_interface_whole, BeginsMembers, begun_members_none, begun_members_one, begun_members_more, begun_members_empty, begun_members_whole, BeginsMember, begun_member_none, begun_member_type, begun_member_result, begun_member_vars, begun_member_params, begun_member_body, begun_member_ctor_params, begun_member_ctor, begun_member_whole, BeginsImembers, begun_imembers_none, begun_imembers_one, begun_imembers_more, begun_imembers_empty, begun_imembers_whole, BeginsImember, begun_imember_none, begun_imember_type, begun_imember_result, begun_imember_constants, begun_imember_params, begun_imember_whole, BeginsTypes, begun_types_none, begun_types_one, begun_types_more, begun_types_empty, begun_types_whole, Begins, begun_file_none, begun_file_package, begun_file_imports, begun_file_types, begun_file_whole}
+use Rattle.jv_grammar.specs.DeclBegins.{BeginsBody, begun_body_none, begun_body_block, begun_body_whole, BeginsCtor, begun_ctor_none, begun_ctor_plain, begun_ctor_args, begun_ctor_super, begun_ctor_whole, BeginsConstants, begun_constants_none, begun_constants_name, begun_constants_one, begun_constants_more, begun_constants_whole, BeginsType, begun_type_none, begun_type_class, begun_type_interface, begun_type_whole, BeginsClass, begun_class_none, begun_class_word, begun_class_parent, begun_class_interfaces, begun_class_members, begun_class_whole, BeginsInterface, begun_interface_none, begun_interface_word, begun_interface_parents, begun_interface_members, begun_interface_whole, BeginsMembers, begun_members_none, begun_members_one, begun_members_more, begun_members_empty, begun_members_whole, BeginsMember, begun_member_none, begun_member_type, begun_member_result, begun_member_vars, begun_member_params, begun_member_body, begun_member_ctor_params, begun_member_ctor, begun_member_whole, BeginsImembers, begun_imembers_none, begun_imembers_one, begun_imembers_more, begun_imembers_empty, begun_imembers_whole, BeginsImember, begun_imember_none, begun_imember_type, begun_imember_result, begun_imember_constants, begun_imember_params, begun_imember_body, begun_imember_whole, BeginsTypes, begun_types_none, begun_types_one, begun_types_more, begun_types_empty, begun_types_whole, Begins, begun_file_none, begun_file_package, begun_file_imports, begun_file_types, begun_file_whole}
 use Rattle.jv_grammar.specs.Depth.{deep_expr, deep_cond, deep_bin, deep_links, deep_link, deep_unary, deep_cast, deep_plain, deep_post, deep_primary, deep_head, deep_dims, deep_args, deep_exprs, deep_init, deep_list, deep_inits, deep_var, deep_vars, deep_local, deep_effects, deep_first, deep_optional, deep_updates, deep_block, deep_bstmts, deep_bstmt, deep_stmt, deep_body, deep_ctor, deep_constants, deep_type, deep_class, deep_interface, deep_members, deep_member, deep_imembers, deep_imember, deep_types, deep_file}
 
 abbrev mutual
@@ -282,6 +282,7 @@ abbrev mutual
   begun_deep_imember (begun_imember_result m r) = 0
   begun_deep_imember (begun_imember_constants m d r) = begun_deep_constants r
   begun_deep_imember (begun_imember_params m d r) = 0
+  begun_deep_imember (begun_imember_body m d q r) = begun_deep_body r
   begun_deep_imember (begun_imember_whole d) = deep_imember d
 
 abbrev pub begun_deep_types : {xs : List Terminal} → BeginsTypes xs → ℕ

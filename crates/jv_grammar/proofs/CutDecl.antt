@@ -15,7 +15,7 @@ use Rattle.jv_grammar.specs.Reader.{Reads, ◌>>=◌, closed}
 use Rattle.jv_grammar.specs.TypeReader.{name_of, base_of, pairs_of, ty_of, declares}
 use Rattle.jv_grammar.specs.ExprReader.{args_of, init_of, head_of, primary_of, post_of, unary_of, bin_of, cond_of, expr_of, below}
 use Rattle.jv_grammar.specs.StmtReader.{var_by, vars_up_to, vars_by, effect_by, effect_stmt_by, word_by, stmt_by, bstmt_by, bstmts_up_to, bstmts_by, below_stmt, block_of, bstmts_of}
-use Rattle.jv_grammar.specs.DeclReader.{calls, params_of, constants_of, fields_in, body_in, field_of, method_of, typed_of, plain_of, call_of, inner_of, ctor_of}
+use Rattle.jv_grammar.specs.DeclReader.{calls, params_of, constants_of, fields_in, body_of, field_of, method_of, typed_of, plain_of, call_of, inner_of, ctor_of}
 use Rattle.jv_grammar.proofs.Ending.{left_of, Ends, IsShort}
 use Rattle.jv_grammar.proofs.Cut.{left_bind}
 use Rattle.jv_grammar.proofs.CutBoth.{IsCutUnless, both_end, CutBoth, looser, ended, from_first, short_if, cut_choice, cut_then, cut_done, cut_none, cut_map, cut_turn, cut_next, cut_if, cut_mark}
@@ -44,10 +44,10 @@ cut_calls {A} {n} {m} {d} p q p' q' c c' e s = from_first (λ xs. cond (calls xs
     by (MinimumLong p) zs ws l l' = c'.cut (MinimumLong p ∷ zs) ws l l'
     by (Punct p o) zs ws l l' = c'.cut (Punct p o ∷ zs) ws l l'
 
-plain_short : (i : Bool) (n : ℕ) (ks : List ℕ) → ((r : TypeTree) → IsShort (method_of i n ks r)) → IsShort (typed_of i n ks) → IsShort (plain_of i n ks)
+plain_short : (i : Bool) (n : ℕ) (ks : List ℕ) → ((r : TypeTree) → IsShort (method_of n ks r)) → IsShort (typed_of i n ks) → IsShort (plain_of i n ks)
 unfolding plain_of
 plain_short i n ks s s' [] = s' []
-plain_short i n ks s s' (Keyword p v ∷ xs) = short_if (nat_eq v word_void) (method_of i n ks (record { at = p; base = void; dims = 0 }) xs) (typed_of i n ks (Keyword p v ∷ xs)) (Keyword p v ∷ xs)
+plain_short i n ks s s' (Keyword p v ∷ xs) = short_if (nat_eq v word_void) (method_of n ks (record { at = p; base = void; dims = 0 }) xs) (typed_of i n ks (Keyword p v ∷ xs)) (Keyword p v ∷ xs)
     (let l = s (record { at = p; base = void; dims = 0 }) xs in omega (arith, l)) (s' (Keyword p v ∷ xs))
 plain_short i n ks s s' (x ∷ xs) = s' (x ∷ xs)
 
@@ -110,9 +110,8 @@ module _ (n m : ℕ) (l : n ≤ m) where
   both_bstmts_at : (i j : ℕ) → CutBoth i j (suc n) (bstmts_of n) (bstmts_of m)
   both_bstmts_at = both_bstmts n (below n) (below m) (both_below n m l) (names_below n) (below_stmt n) (below_stmt m) (both_below_stmt n m l) (bstmt_takes n)
 
-  pub both_body : (f : Bool) (i j : ℕ) → CutBoth i j (suc n) (body_in f n) (body_in f m)
-  both_body true i j = cut_mark semicolon None
-  both_body false i j = cut_if (starts semicolon) (first_mark _) (cut_next (cut_done None)) (cut_map (λ (x : ℕ × StmtTrees). Some x.1) (both_block_at i j))
+  pub both_body : (i j : ℕ) → CutBoth i j (suc n) (body_of n) (body_of m)
+  both_body i j = cut_if (starts semicolon) (first_mark _) (cut_next (cut_done None)) (cut_map (λ (x : ℕ × StmtTrees). Some x.1) (both_block_at i j))
 
   module _ (f : Bool) (ks : List ℕ) where
     pub both_field : (r : TypeTree) (i j : ℕ) → CutBoth i j (suc n) (field_of f n ks r) (field_of f m ks r)
@@ -121,22 +120,22 @@ module _ (n m : ℕ) (l : n ≤ m) where
 
     -- a method behind its name
     abbrev behind_name : ℕ → TypeTree → Identifier × List Terminal → Reads MemberTree
-    behind_name n r j = params_of j.1 >>= λ q. body_in f n q.1 >>= λ b. Ok (d.method (record { mods = ks; result = r; name = j.0; params = q.0; body = b.0 }), b.1)
+    behind_name n r j = params_of j.1 >>= λ q. body_of n q.1 >>= λ b. Ok (d.method (record { mods = ks; result = r; name = j.0; params = q.0; body = b.0 }), b.1)
 
     both_behind_name : (r : TypeTree) (x : Identifier) (i j : ℕ) → CutBoth i j (suc n) (λ us. behind_name n r (x, us)) (λ us. behind_name m r (x, us))
-    both_behind_name r x i j = cut_then _ _ (both_params i j (suc n)) (λ ps. cut_map (λ (b : Option StmtTrees). d.method (record { mods = ks; result = r; name = x; params = ps; body = b })) (both_body f i j))
+    both_behind_name r x i j = cut_then _ _ (both_params i j (suc n)) (λ ps. cut_map (λ (b : Option StmtTrees). d.method (record { mods = ks; result = r; name = x; params = ps; body = b })) (both_body i j))
 
-    pub both_method : (r : TypeTree) (i j : ℕ) → CutBoth i j (suc n) (method_of f n ks r) (method_of f m ks r)
+    pub both_method : (r : TypeTree) (i j : ℕ) → CutBoth i j (suc n) (method_of n ks r) (method_of m ks r)
     unfolding method_of
     both_method r i j = cut_then (behind_name n r) (behind_name m r) (both_ident i j (suc n)) (λ x. both_behind_name r x i j)
 
-    method_takes : (r : TypeTree) (x : Identifier) (ws : List Terminal) → length (left_of (method_of f m ks r (Ident x ∷ ws))) ≤ length ws
+    method_takes : (r : TypeTree) (x : Identifier) (ws : List Terminal) → length (left_of (method_of m ks r (Ident x ∷ ws))) ≤ length ws
     unfolding method_of
     method_takes r x ws = (both_behind_name r x 0 0).whole ws
 
     pub both_typed : (i j : ℕ) → CutBoth i j (suc n) (typed_of f n ks) (typed_of f m ks)
     unfolding typed_of
-    both_typed i j = cut_then _ _ (both_ty i j (suc n)) (λ r. cut_calls (method_of f n ks r) (method_of f m ks r) (field_of f n ks r) (field_of f m ks r) (both_method r i j) (both_field r i j) (field_ends n f ks r) (method_takes r))
+    both_typed i j = cut_then _ _ (both_ty i j (suc n)) (λ r. cut_calls (method_of n ks r) (method_of m ks r) (field_of f n ks r) (field_of f m ks r) (both_method r i j) (both_field r i j) (field_ends n f ks r) (method_takes r))
 
     pub both_plain : (i j : ℕ) → CutBoth i j (suc n) (plain_of f n ks) (plain_of f m ks)
     unfolding plain_of

@@ -1,7 +1,7 @@
 -- How deep begun declarations and files nest: no deeper than the load leaves room for.
 use Rattle.std.proofs.Common.{ℕ, suc, List, Option, refl, arith}
 use Rattle.jv_grammar.specs.declared.terminal.Terminal.{Terminal}
-use Rattle.jv_grammar.specs.DeclBegins.{BeginsBody, begun_body_none, begun_body_block, begun_body_whole, BeginsCtor, begun_ctor_none, begun_ctor_plain, begun_ctor_args, begun_ctor_super, begun_ctor_whole, BeginsConstants, begun_constants_none, begun_constants_name, begun_constants_one, begun_constants_more, begun_constants_whole, BeginsType, begun_type_none, begun_type_class, begun_type_interface, begun_type_whole, BeginsClass, begun_class_none, begun_class_word, begun_class_parent, begun_class_interfaces, begun_class_members, begun_class_whole, BeginsInterface, begun_interface_none, begun_interface_word, begun_interface_parents, begun_interface_members, begun_interface_whole, BeginsMembers, begun_members_none, begun_members_one, begun_members_more, begun_members_empty, begun_members_whole, BeginsMember, begun_member_none, begun_member_type, begun_member_result, begun_member_vars, begun_member_params, begun_member_body, begun_member_ctor_params, begun_member_ctor, begun_member_whole, BeginsImembers, begun_imembers_none, begun_imembers_one, begun_imembers_more, begun_imembers_empty, begun_imembers_whole, BeginsImember, begun_imember_none, begun_imember_type, begun_imember_result, begun_imember_constants, begun_imember_params, begun_imember_whole, BeginsTypes, begun_types_none, begun_types_one, begun_types_more, begun_types_empty, begun_types_whole, Begins, begun_file_none, begun_file_package, begun_file_imports, begun_file_types, begun_file_whole}
+use Rattle.jv_grammar.specs.DeclBegins.{BeginsBody, begun_body_none, begun_body_block, begun_body_whole, BeginsCtor, begun_ctor_none, begun_ctor_plain, begun_ctor_args, begun_ctor_super, begun_ctor_whole, BeginsConstants, begun_constants_none, begun_constants_name, begun_constants_one, begun_constants_more, begun_constants_whole, BeginsType, begun_type_none, begun_type_class, begun_type_interface, begun_type_whole, BeginsClass, begun_class_none, begun_class_word, begun_class_parent, begun_class_interfaces, begun_class_members, begun_class_whole, BeginsInterface, begun_interface_none, begun_interface_word, begun_interface_parents, begun_interface_members, begun_interface_whole, BeginsMembers, begun_members_none, begun_members_one, begun_members_more, begun_members_empty, begun_members_whole, BeginsMember, begun_member_none, begun_member_type, begun_member_result, begun_member_vars, begun_member_params, begun_member_body, begun_member_ctor_params, begun_member_ctor, begun_member_whole, BeginsImembers, begun_imembers_none, begun_imembers_one, begun_imembers_more, begun_imembers_empty, begun_imembers_whole, BeginsImember, begun_imember_none, begun_imember_type, begun_imember_result, begun_imember_constants, begun_imember_params, begun_imember_body, begun_imember_whole, BeginsTypes, begun_types_none, begun_types_one, begun_types_more, begun_types_empty, begun_types_whole, Begins, begun_file_none, begun_file_package, begun_file_imports, begun_file_types, begun_file_whole}
 use Rattle.jv_grammar.proofs.BegunDepth.{begun_deep_body, begun_deep_ctor, begun_deep_constants, begun_deep_type, begun_deep_class, begun_deep_interface, begun_deep_members, begun_deep_member, begun_deep_imembers, begun_deep_imember, begun_deep_types, begun_deep_file}
 use Rattle.jv_grammar.proofs.Stretches.{part}
 use Rattle.jv_grammar.proofs.BegunStretches.{BegunParts, begun_here, begun_eased_parts, begun_whole_parts, begun_brace, begun_part, begun_parts, begun_loose}
@@ -85,6 +85,8 @@ mutual
   parts_begun_imember (begun_imember_result m r) = begun_eased_parts (begun_part begun_here) (omega arith)
   parts_begun_imember (begun_imember_constants m d r) = begun_eased_parts (begun_parts (parts_mods m) (λ c. begun_parts (parts_ty d) (λ c. parts_begun_constants r))) (omega arith)
   parts_begun_imember (begun_imember_params m d r) = begun_eased_parts (begun_part begun_here) (omega arith)
+  parts_begun_imember (begun_imember_body m d q r) =
+      begun_eased_parts (begun_parts (parts_mods m) (λ c. begun_parts (parts_result d) (λ c. begun_loose refl (begun_parts (parts_params q) (λ c. parts_begun_body r))))) (omega arith)
   parts_begun_imember (begun_imember_whole d) = begun_eased_parts (begun_whole_parts (parts_imember d)) (omega arith)
 
 parts_begun_types : {most : ℕ} {b : Option Terminal} {xs : List Terminal} (d : BeginsTypes xs) → BegunParts most b (suc (begun_deep_types d)) xs

@@ -14,7 +14,7 @@ use Rattle.jv_grammar.specs.ExprGrammar.{DerivesArgs, args_none, args_some}
 use Rattle.jv_grammar.specs.StmtGrammar.{DerivesBlock, block}
 use Rattle.jv_grammar.specs.DeclGrammar.{DerivesMods, mods_none, mods_more, DerivesParam, param_plain, param_final, DerivesSomeParams, some_params_one, some_params_more, DerivesParams, params_none, params_some, DerivesBody, body_block, body_none, DerivesCtor, ctor_plain, ctor_super, DerivesConstants, constants_one, constants_more, DerivesParent, parent_none, parent_some, DerivesParents, parents_none, parents_some, DerivesInterfaces, interfaces_none, interfaces_some, DerivesType, type_class, type_interface, DerivesClass, class, DerivesInterface, interface, DerivesMembers, members_none, members_more, members_empty, DerivesMember, member_type, member_field, member_method, member_ctor, DerivesImembers, imembers_none, imembers_more, imembers_empty, DerivesImember, imember_type, imember_field, imember_method, DerivesPackage, package_none, package_some, DerivesImport, import_one, import_all, DerivesImports, imports_none, imports_more, DerivesTypes, types_none, types_more, types_empty, Derives, file}
 use Rattle.jv_grammar.specs.Reader.{Reads, ◌>>=◌, starts_ident}
-use Rattle.jv_grammar.specs.DeclReader.{calls, mods_of, names_of, parent_of, headed_of, param_of, some_params_of, params_of, constants_of, fields_in, body_in, field_of, method_of, typed_of, plain_of, call_of, inner_of, ctor_of, BelowType, begins_type, behind_mods, member_of, members_of, braced_of, class_of, interface_of, decl_of, below_type, type_of, types_of, package_of, path_of, import_of, imports_of, file_of}
+use Rattle.jv_grammar.specs.DeclReader.{calls, mods_of, names_of, parent_of, headed_of, param_of, some_params_of, params_of, constants_of, fields_in, body_of, field_of, method_of, typed_of, plain_of, call_of, inner_of, ctor_of, BelowType, begins_type, behind_mods, member_of, members_of, braced_of, class_of, interface_of, decl_of, below_type, type_of, types_of, package_of, path_of, import_of, imports_of, file_of}
 use Rattle.jv_grammar.specs.Width.{wide_ty, wide_result}
 use Rattle.jv_grammar.specs.DeclWidth.{wide_param, wide_some_params, wide_params, wide_body, wide_ctor, wide_constants, wide_type, wide_class, wide_interface, wide_members, wide_member, wide_imembers, wide_imember, wide_types, wide_file}
 use Rattle.jv_grammar.proofs.Depth.{less_name, less_init}
@@ -127,11 +127,11 @@ reads_constants n (constants_more d v) zero h w r s l = absurd (omega (arith, le
 reads_constants n (constants_more d v) (suc k) h w r s l =
     rw (reads_init n d (omega arith) (omega arith) (lit< tt)) (rw (reads_constants n v k (omega arith) (omega arith) r s (omega (arith, less_init d))) refl)
 
--- the body of a method in a class
+-- the body of a method
 block_no_semicolon : {p : ℕ} {ss : StmtTrees} {xs ys : List Terminal} → DerivesBlock p ss xs ys → starts semicolon xs ≡ false
 block_no_semicolon (block d) = refl
 
-pub reads_body : (n : ℕ) {b : Option StmtTrees} {xs ys : List Terminal} (d : DerivesBody b xs ys) → deep_body d ≤ n → wide_body d ≤ 200 → body_in false n xs ≡ got_body b ys
+pub reads_body : (n : ℕ) {b : Option StmtTrees} {xs ys : List Terminal} (d : DerivesBody b xs ys) → deep_body d ≤ n → wide_body d ≤ 200 → body_of n xs ≡ got_body b ys
 reads_body n (body_block d) h w = rw (block_no_semicolon d) (rw (reads_block n d h w) refl)
 reads_body n body_none h w = refl
 
@@ -139,21 +139,21 @@ reads_field : (i : Bool) (n : ℕ) (ks : List ℕ) (r : TypeTree) (vs : List Var
 unfolding field_of
 reads_field i n ks r vs p xs ys h = rw h refl
 
-reads_method : (i : Bool) (n : ℕ) (ks : List ℕ) (r : TypeTree) (j : Identifier) {bs : List ParamTree} {b : Option StmtTrees} {xs zs ys : List Terminal} (q : DerivesParams bs xs zs) → wide_params q ≤ 200
-    → body_in i n zs ≡ got_body b ys → method_of i n ks r (Ident j ∷ xs) ≡ got_member (t.method (record { mods = ks; result = r; name = j; params = bs; body = b })) ys
+reads_method : (n : ℕ) (ks : List ℕ) (r : TypeTree) (j : Identifier) {bs : List ParamTree} {b : Option StmtTrees} {xs zs ys : List Terminal} (q : DerivesParams bs xs zs) → wide_params q ≤ 200
+    → body_of n zs ≡ got_body b ys → method_of n ks r (Ident j ∷ xs) ≡ got_member (t.method (record { mods = ks; result = r; name = j; params = bs; body = b })) ys
 unfolding method_of
-reads_method i n ks r j q w h = rw (reads_params q w) (rw h refl)
+reads_method n ks r j q w h = rw (reads_params q w) (rw h refl)
 
 -- what stands behind a type decides between fields and a method
 typed_field : (i : Bool) (n : ℕ) (ks : List ℕ) {r : TypeTree} {xs ys : List Terminal} (d : DerivesTy r xs ys) → wide_ty d ≤ 200 → starts_ident ys ≡ true → calls ys ≡ false → typed_of i n ks xs ≡ field_of i n ks r ys
 unfolding typed_of
 typed_field i n ks {ys} d w s h = rw (reads_ty d w (ident_no_mark dot ys s) (ident_no_mark bracket_open ys s)) (rw h refl)
 
-typed_method : (i : Bool) (n : ℕ) (ks : List ℕ) {r : TypeTree} {j : Identifier} {xs ys : List Terminal} (d : DerivesTy r xs (Ident j ∷ ys)) → wide_ty d ≤ 200 → starts paren_open ys ≡ true → typed_of i n ks xs ≡ method_of i n ks r (Ident j ∷ ys)
+typed_method : (i : Bool) (n : ℕ) (ks : List ℕ) {r : TypeTree} {j : Identifier} {xs ys : List Terminal} (d : DerivesTy r xs (Ident j ∷ ys)) → wide_ty d ≤ 200 → starts paren_open ys ≡ true → typed_of i n ks xs ≡ method_of n ks r (Ident j ∷ ys)
 unfolding typed_of
 typed_method i n ks d w h = rw (reads_ty d w refl refl) (rw h refl)
 
-pub plain_method : (i : Bool) (n : ℕ) (ks : List ℕ) {r : TypeTree} {j : Identifier} {xs ys : List Terminal} (d : DerivesResult r xs (Ident j ∷ ys)) → wide_result d ≤ 200 → starts paren_open ys ≡ true → plain_of i n ks xs ≡ method_of i n ks r (Ident j ∷ ys)
+pub plain_method : (i : Bool) (n : ℕ) (ks : List ℕ) {r : TypeTree} {j : Identifier} {xs ys : List Terminal} (d : DerivesResult r xs (Ident j ∷ ys)) → wide_result d ≤ 200 → starts paren_open ys ≡ true → plain_of i n ks xs ≡ method_of n ks r (Ident j ∷ ys)
 unfolding plain_of
 plain_method i n ks (result_ty d) w h = ty_plain i n ks d ∙ typed_method i n ks d w h
 plain_method i n ks result_void w h = refl
@@ -226,7 +226,7 @@ module _ (n : ℕ) (nest : BelowType) (c : CompType n nest) where
       let s = result_begins d in
       rw (reads_mods m s.0)
       (behind_plain false ks zs s.1 (result_calls d refl) ∙ plain_method false n ks d (omega arith) (params_open q)
-      ∙ reads_method false n ks r i q (omega arith) (reads_body n b h (omega arith)))
+      ∙ reads_method n ks r i q (omega arith) (reads_body n b h (omega arith)))
   c_member (member_ctor {ks} m q b) h w = rw (reads_mods m refl) (behind_ctor ks q b h (omega arith) (omega arith))
 
   pub c_imember : {m : MemberTree} {xs ys : List Terminal} (d : DerivesImember m xs ys) → deep_imember d ≤ n → wide_imember d ≤ 200 → member_of true n nest xs ≡ got_member m ys
@@ -239,11 +239,11 @@ module _ (n : ℕ) (nest : BelowType) (c : CompType n nest) where
       (behind_plain true ks zs b.1 (ty_calls d (ident_no_mark paren_open ws s.0))
       ∙ ty_plain true n ks d ∙ typed_field true n ks d (omega arith) s.0 s.1
       ∙ reads_field true n ks r vs p ws ys (reads_constants n v (length ws) h (omega arith) (lit< tt) refl (omega arith)))
-  c_imember (imember_method {ks} {r} {i} {zs} m d q) h w =
+  c_imember (imember_method {ks} {r} {i} {zs} m d q b) h w =
       let s = result_begins d in
       rw (reads_mods m s.0)
       (behind_plain true ks zs s.1 (result_calls d refl) ∙ plain_method true n ks d (omega arith) (params_open q)
-      ∙ reads_method true n ks r i q (omega arith) refl)
+      ∙ reads_method n ks r i q (omega arith) (reads_body n b h (omega arith)))
 
   pub c_members : {ms : MemberTrees} {p : ℕ} {xs ys : List Terminal} (d : DerivesMembers ms xs (Punct p brace_close ∷ ys)) (k : ℕ) → deep_members d ≤ n → wide_members d ≤ 200 → length xs ≤ k → members_of false n nest k xs ≡ got_members ms ys
   unfolding members_of
@@ -345,7 +345,7 @@ reads_imports (imports_more d r) (suc k) h l = import_turn k d ∙ rw (reads_imp
 pub types_no_word : {ts : List TypeDeclTree} {xs : List Terminal} → DerivesTypes ts xs [] → (starts_word word_package xs ≡ false) × (starts_word word_import xs ≡ false)
 types_no_word types_none = (refl, refl)
 types_no_word (types_more d r) =
-    (type_no_word word_package (refl, (refl, (refl, (refl, (refl, (refl, tt)))))) refl refl d, type_no_word word_import (refl, (refl, (refl, (refl, (refl, (refl, tt)))))) refl refl d)
+    (type_no_word word_package (refl, (refl, (refl, (refl, (refl, (refl, (refl, tt))))))) refl refl d, type_no_word word_import (refl, (refl, (refl, (refl, (refl, (refl, (refl, tt))))))) refl refl d)
 types_no_word (types_empty r) = (refl, refl)
 
 pub imports_no_package : {is : List ImportTree} {xs ys : List Terminal} → DerivesImports is xs ys → starts_word word_package ys ≡ false → starts_word word_package xs ≡ false

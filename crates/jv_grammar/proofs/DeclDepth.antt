@@ -81,7 +81,7 @@ mutual
   pub less_imember : {m : MemberTree} {xs ys : List Terminal} → DerivesImember m xs ys → length ys < length xs
   less_imember (imember_type d) = less_type d
   less_imember (imember_field m d v) = omega (arith, less_mods m, less_ty d, less_constants v)
-  less_imember (imember_method m d q) = omega (arith, less_mods m, less_result d, less_params q)
+  less_imember (imember_method m d q b) = omega (arith, less_mods m, less_result d, less_params q, less_body b)
 
 pub less_package : {n : Option (List Identifier)} {xs ys : List Terminal} → DerivesPackage n xs ys → length ys ≤ length xs
 less_package package_none = omega arith
@@ -143,7 +143,7 @@ mutual
   pub fits_imember : {m : MemberTree} {xs ys : List Terminal} (d : DerivesImember m xs ys) → deep_imember d + length ys ≤ length xs
   fits_imember (imember_type d) = omega (arith, fits_type d)
   fits_imember (imember_field m d v) = omega (arith, less_mods m, less_ty d, fits_constants v)
-  fits_imember (imember_method m d q) = omega (arith, less_mods m, less_result d, less_params q)
+  fits_imember (imember_method m d q b) = omega (arith, less_mods m, less_result d, less_params q, fits_body b)
 
 pub fits_types : {ts : List TypeDeclTree} {xs ys : List Terminal} (d : DerivesTypes ts xs ys) → deep_types d + length ys ≤ length xs
 fits_types types_none = omega arith

@@ -83,7 +83,7 @@ mutual
   pub closed_imember : {m : MemberTree} {xs ys : List Terminal} → DerivesImember m xs ys → IsClosed xs ys
   closed_imember (imember_type d) = closed_type d
   closed_imember (imember_field m d v) = closed_trans (closed_mods m) (closed_trans (closed_ty d) (closed_trans (closed_constants v) (terminal refl refl nothing)))
-  closed_imember (imember_method m d q) = closed_trans (closed_mods m) (closed_trans (closed_result d) (terminal refl refl (closed_trans (closed_params q) (terminal refl refl nothing))))
+  closed_imember (imember_method m d q b) = closed_trans (closed_mods m) (closed_trans (closed_result d) (terminal refl refl (closed_trans (closed_params q) (closed_body b))))
 
 pub closed_package : {n : Option (List Identifier)} {xs ys : List Terminal} → DerivesPackage n xs ys → IsClosed xs ys
 closed_package package_none = nothing
@@ -161,9 +161,10 @@ mutual
   few_imember h (imember_field m d v) =
       let k = few_behind (closed_mods m) h in
       omega (arith, few_ty k d, few_constants (few_behind (closed_ty d) k) v)
-  few_imember h (imember_method m d q) =
+  few_imember h (imember_method m d q b) =
       let k = few_behind (closed_mods m) h in
-      omega (arith, few_result k d, few_params (few_behind (closed_result d) k).1 q)
+      let l = (few_behind (closed_result d) k).1 in
+      omega (arith, few_result k d, few_params l q, few_body (few_behind (closed_params q) l) b)
 
 pub few_types : {ts : List TypeDeclTree} {xs ys : List Terminal} → HasFewBrackets xs → (d : DerivesTypes ts xs ys) → wide_types d ≤ 200
 few_types h types_none = omega arith

@@ -97,7 +97,7 @@ mutual
   pub parts_imember : {most : ℕ} {b : Option Terminal} {m : MemberTree} {xs ys : List Terminal} (d : DerivesImember m xs ys) → Parts most b (suc (deep_imember d)) xs ys
   parts_imember (imember_type d) = parts_type d
   parts_imember (imember_field m d v) = eased_parts (parts (parts_mods m) (λ c. parts (parts_ty d) (λ c. parts (parts_constants v) (λ c. loose refl (part done))))) (omega arith)
-  parts_imember (imember_method m d q) = eased_parts (parts (parts_mods m) (λ c. parts (parts_result d) (λ c. loose refl (parts (parts_params q) (λ c. loose refl (part done)))))) (omega arith)
+  parts_imember (imember_method m d q b) = eased_parts (parts (parts_mods m) (λ c. parts (parts_result d) (λ c. loose refl (parts (parts_params q) (λ c. parts_body b))))) (omega arith)
 
 pub parts_package : {most : ℕ} {b : Option Terminal} {n : Option (List Identifier)} {xs ys : List Terminal} → DerivesPackage n xs ys → Parts most b 1 xs ys
 parts_package package_none = part done

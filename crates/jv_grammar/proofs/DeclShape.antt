@@ -18,7 +18,7 @@ use Rattle.jv_grammar.proofs.StmtShape.{shape_vars, shape_block, shape_bstmts}
 
 pub shape_mods : {ks : List ℕ} {xs ys : List Terminal} → DerivesMods ks xs ys → AreMods ks
 shape_mods mods_none = All-nil IsMod
-shape_mods (mods_more {k} {ks} m d) = All-cons IsMod k ks (among IsMod modifiers k (refl, (refl, (refl, (refl, (refl, (refl, tt)))))) m) (shape_mods d)
+shape_mods (mods_more {k} {ks} m d) = All-cons IsMod k ks (among IsMod modifiers k (refl, (refl, (refl, (refl, (refl, (refl, (refl, tt))))))) m) (shape_mods d)
 
 pub shape_names : {ns : List (List Identifier)} {xs ys : List Terminal} → DerivesNames ns xs ys → All IsName ns
 shape_names (names_one {ids} d) = All-cons IsName ids [] (shape_name d) (All-nil IsName)
@@ -106,8 +106,8 @@ mutual
   shape_imember ms (imember_field m d v) w s =
       let k = shape_constants v (omega arith) in
       (shape_mods m, shape_ty d (omega arith), k.0, (λ e. k.1), s)
-  shape_imember ms (imember_method m d q) w s =
-      ((shape_mods m, shape_result d (omega arith), shape_params q (omega arith), tt), s)
+  shape_imember ms (imember_method m d q b) w s =
+      ((shape_mods m, shape_result d (omega arith), shape_params q (omega arith), shape_body b (omega arith)), s)
 
 shape_package : {n : Option (List Identifier)} {xs ys : List Terminal} → DerivesPackage n xs ys → IsPackage n
 shape_package package_none = tt

@@ -17,7 +17,7 @@ use Rattle.jv_grammar.specs.Reader.{rest_of, closed}
 use Rattle.jv_grammar.specs.TypeReader.{name_of, ty_of}
 use Rattle.jv_grammar.specs.ExprReader.{args_of, init_of, below}
 use Rattle.jv_grammar.specs.StmtReader.{block_of, bstmts_of}
-use Rattle.jv_grammar.specs.DeclReader.{ident_of, calls, mods_of, names_of, parent_of, headed_of, named_of, param_of, some_params_of, params_of, constants_of, fields_in, body_in, field_of, method_of, typed_of, plain_of, call_of, inner_of, ctor_of, BelowType, begins_type, behind_mods, member_of, members_of, braced_of, class_of, interface_of, decl_of, below_type, type_of, types_of, package_of, path_of, import_of, imports_of, file_of}
+use Rattle.jv_grammar.specs.DeclReader.{ident_of, calls, mods_of, names_of, parent_of, headed_of, named_of, param_of, some_params_of, params_of, constants_of, fields_in, body_of, field_of, method_of, typed_of, plain_of, call_of, inner_of, ctor_of, BelowType, begins_type, behind_mods, member_of, members_of, braced_of, class_of, interface_of, decl_of, below_type, type_of, types_of, package_of, path_of, import_of, imports_of, file_of}
 use Rattle.jv_grammar.specs.Width.{wide_ty, wide_result}
 use Rattle.jv_grammar.specs.DeclWidth.{wide_param, wide_some_params, wide_params, wide_body, wide_ctor, wide_constants, wide_type, wide_class, wide_interface, wide_members, wide_member, wide_imembers, wide_imember, wide_types, wide_file}
 use Rattle.jv_grammar.proofs.Read.{bind_ok, chosen, err_ok, ok_is, both, starts_is, closed_ok}
@@ -249,7 +249,7 @@ derives_constants n (suc k) xs r h =
           (subst (λ z. AreConstants (record { name = j.0.0; init = Some x.0.0 } ∷ []) z x.0.1) (sym first) (constants_one d.0, d.1))
     ]
 
-pub derives_body : (n : ℕ) (xs : List Terminal) (r : Option StmtTrees × List Terminal) → body_in false n xs ≡ Ok r → FoundBody xs r
+pub derives_body : (n : ℕ) (xs : List Terminal) (r : Option StmtTrees × List Terminal) → body_of n xs ≡ Ok r → FoundBody xs r
 derives_body n xs r h = elim (chosen (starts semicolon xs) _ _ _ h) [
   | inl w ↦ (let m = starts_is semicolon xs w.0 in
       subst (FoundBody xs) (ok_is w.1) (subst (λ z. IsBodyOf None z (rest_of xs)) (sym m.1) (body_none, omega arith)))
@@ -273,7 +273,7 @@ fields_ok i n ks r xs q h =
     record { vs = v.0.0; p = e.0; vars = v.1 ∙ ap (λ z. Ok (v.0.0, z)) e.1; is = e.2 }
 
 -- a method behind its result
-record MethodRead (i : Bool) (n : ℕ) (ks : List ℕ) (r : TypeTree) (xs : List Terminal) (q : MemberTree × List Terminal) : Type 0 where
+record MethodRead (n : ℕ) (ks : List ℕ) (r : TypeTree) (xs : List Terminal) (q : MemberTree × List Terminal) : Type 0 where
   pub j : Identifier
   pub zs : List Terminal
   pub ws : List Terminal
@@ -281,15 +281,15 @@ record MethodRead (i : Bool) (n : ℕ) (ks : List ℕ) (r : TypeTree) (xs : List
   pub b : Option StmtTrees
   pub first : xs ≡ Ident j ∷ zs
   pub params : AreParams bs zs ws
-  pub body : body_in i n ws ≡ Ok (b, q.1)
+  pub body : body_of n ws ≡ Ok (b, q.1)
   pub is : t.method (record { mods = ks; result = r; name = j; params = bs; body = b }) ≡ q.0
 
-method_ok : (i : Bool) (n : ℕ) (ks : List ℕ) (r : TypeTree) (xs : List Terminal) (q : MemberTree × List Terminal) → method_of i n ks r xs ≡ Ok q → MethodRead i n ks r xs q
+method_ok : (n : ℕ) (ks : List ℕ) (r : TypeTree) (xs : List Terminal) (q : MemberTree × List Terminal) → method_of n ks r xs ≡ Ok q → MethodRead n ks r xs q
 unfolding method_of
-method_ok i n ks r xs q h =
+method_ok n ks r xs q h =
     let j = bind_ok (ident_of xs) _ _ h in
     let a = bind_ok (params_of j.0.1) _ _ j.2 in
-    let b = bind_ok (body_in i n a.0.1) _ _ a.2 in
+    let b = bind_ok (body_of n a.0.1) _ _ a.2 in
     let e = ok_is b.2 in
     record {
       j = j.0.0;
@@ -310,30 +310,30 @@ record FieldAt (i : Bool) (n : ℕ) (ks : List ℕ) (xs : List Terminal) (q : Me
   pub ty : IsTy r xs ys
   pub fields : FieldsRead i n ks r ys q
 
-record MethodAt (i : Bool) (n : ℕ) (ks : List ℕ) (xs : List Terminal) (q : MemberTree × List Terminal) : Type 0 where
+record MethodAt (n : ℕ) (ks : List ℕ) (xs : List Terminal) (q : MemberTree × List Terminal) : Type 0 where
   pub r : TypeTree
   pub ys : List Terminal
   pub result : IsResulting r xs ys
-  pub method : MethodRead i n ks r ys q
+  pub method : MethodRead n ks r ys q
 
-typed_ok : (i : Bool) (n : ℕ) (ks : List ℕ) (xs : List Terminal) (q : MemberTree × List Terminal) → typed_of i n ks xs ≡ Ok q → MethodAt i n ks xs q ⊎ FieldAt i n ks xs q
+typed_ok : (i : Bool) (n : ℕ) (ks : List ℕ) (xs : List Terminal) (q : MemberTree × List Terminal) → typed_of i n ks xs ≡ Ok q → MethodAt n ks xs q ⊎ FieldAt i n ks xs q
 unfolding typed_of
 typed_ok i n ks xs q h =
     let x = bind_ok (ty_of xs) _ _ h in
     let d = derives_ty xs x.0 x.1 in
     elim (chosen (calls x.0.1) _ _ _ x.2) [
-      | inl w ↦ inl (record { r = x.0.0; ys = x.0.1; result = (result_ty d.0, d.1); method = method_ok i n ks x.0.0 x.0.1 q w.1 })
+      | inl w ↦ inl (record { r = x.0.0; ys = x.0.1; result = (result_ty d.0, d.1); method = method_ok n ks x.0.0 x.0.1 q w.1 })
       | inr w ↦ inr (record { r = x.0.0; ys = x.0.1; ty = d; fields = fields_ok i n ks x.0.0 x.0.1 q w.1 })
     ]
 
-plain_ok : (i : Bool) (n : ℕ) (ks : List ℕ) (xs : List Terminal) (q : MemberTree × List Terminal) → plain_of i n ks xs ≡ Ok q → MethodAt i n ks xs q ⊎ FieldAt i n ks xs q
+plain_ok : (i : Bool) (n : ℕ) (ks : List ℕ) (xs : List Terminal) (q : MemberTree × List Terminal) → plain_of i n ks xs ≡ Ok q → MethodAt n ks xs q ⊎ FieldAt i n ks xs q
 unfolding plain_of
 plain_ok i n ks [] q h = typed_ok i n ks [] q h
 plain_ok i n ks (Keyword p k ∷ xs) q h = elim (chosen (nat_eq k word_void) _ _ _ h) [
   | inl w ↦ (let e : k ≡ word_void = eqb-true k word_void w.0 in
       let d : IsResulting (record { at = p; base = void; dims = 0 }) (Keyword p k ∷ xs) xs =
       subst (λ z. IsResulting (record { at = p; base = void; dims = 0 }) (Keyword p z ∷ xs) xs) (sym e) (result_void, omega arith) in
-      inl (record { r = record { at = p; base = void; dims = 0 }; ys = xs; result = d; method = method_ok i n ks (record { at = p; base = void; dims = 0 }) xs q w.1 }))
+      inl (record { r = record { at = p; base = void; dims = 0 }; ys = xs; result = d; method = method_ok n ks (record { at = p; base = void; dims = 0 }) xs q w.1 }))
   | inr w ↦ typed_ok i n ks (Keyword p k ∷ xs) q w.1
 ]
 plain_ok i n ks (x ∷ xs) q h = typed_ok i n ks (x ∷ xs) q h
@@ -417,20 +417,17 @@ is_field true n us xs q m f =
     let v = derives_constants n (length f.ys) f.ys _ f.fields.vars in
     subst (λ z. IsMember true z us q.1) (sym f.fields.is) (imember_field m f.ty.0 v.0, omega (arith, f.ty.1, v.1))
 
-is_method : (i : Bool) (n : ℕ) {ks : List ℕ} (us xs : List Terminal) (q : MemberTree × List Terminal) → DerivesMods ks us xs → MethodAt i n ks xs q → FoundMember i us q
+is_method : (i : Bool) (n : ℕ) {ks : List ℕ} (us xs : List Terminal) (q : MemberTree × List Terminal) → DerivesMods ks us xs → MethodAt n ks xs q → FoundMember i us q
 is_method false n us xs q m f =
     let b = derives_body n f.method.ws _ f.method.body in
     let d = subst (IsResulting f.r xs) f.method.first f.result in
     subst (λ z. IsMember false z us q.1) f.method.is (member_method m d.0 f.method.params.0 b.0, omega (arith, d.1, f.method.params.1, b.1))
-is_method true n {ks} us xs q m f =
-    let e = closed_ok semicolon None f.method.ws _ f.method.body in
+is_method true n us xs q m f =
+    let b = derives_body n f.method.ws _ f.method.body in
     let d = subst (IsResulting f.r xs) f.method.first f.result in
-    let a = subst (AreParams f.method.bs f.method.zs) e.1 f.method.params in
-    let none : t.method (record { mods = ks; result = f.r; name = f.method.j; params = f.method.bs; body = None }) ≡ q.0 =
-    ap (λ z. t.method (record { mods = ks; result = f.r; name = f.method.j; params = f.method.bs; body = z })) (sym e.2) ∙ f.method.is in
-    subst (λ z. IsMember true z us q.1) none (imember_method m d.0 a.0, omega (arith, d.1, a.1))
+    subst (λ z. IsMember true z us q.1) f.method.is (imember_method m d.0 f.method.params.0 b.0, omega (arith, d.1, f.method.params.1, b.1))
 
-is_plain : (i : Bool) (n : ℕ) {ks : List ℕ} (us xs : List Terminal) (q : MemberTree × List Terminal) → DerivesMods ks us xs → MethodAt i n ks xs q ⊎ FieldAt i n ks xs q → FoundMember i us q
+is_plain : (i : Bool) (n : ℕ) {ks : List ℕ} (us xs : List Terminal) (q : MemberTree × List Terminal) → DerivesMods ks us xs → MethodAt n ks xs q ⊎ FieldAt i n ks xs q → FoundMember i us q
 is_plain i n us xs q m (inl f) = is_method i n us xs q m f
 is_plain i n us xs q m (inr f) = is_field i n us xs q m f
 

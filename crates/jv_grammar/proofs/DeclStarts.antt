@@ -138,7 +138,7 @@ member_word (member_ctor m q c) = mods_word m refl
 pub imember_word : {m : MemberTree} {xs ys : List Terminal} → DerivesImember m xs ys → begins_word xs ≡ true
 imember_word (imember_type d) = type_word d
 imember_word (imember_field m d v) = mods_word m (ty_begins d).2
-imember_word (imember_method m d q) = mods_word m (result_begins d).2
+imember_word (imember_method m d q b) = mods_word m (result_begins d).2
 
 -- no keyword of another kind begins a type
 class_no_word : (w : ℕ) → (nat_eq word_class w ≡ false) → {ks : List ℕ} {x : TypeDeclTree} {xs ys : List Terminal} → DerivesClass ks x xs ys → starts_word w xs ≡ false

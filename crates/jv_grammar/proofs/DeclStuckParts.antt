@@ -1,6 +1,6 @@
 -- A reader that asks for one more terminal at the end was given what begins its part: parameters, constants, methods, fields and
 -- constructors, the package and the imports of a file.
-use Rattle.std.proofs.Common.{◌≡◌, ℕ, zero, suc, ◌&&◌, ◌⊎◌, inl, inr, Bool, true, false, nat_eq, List, [], ◌∷◌, length, sym, ap, ◌∙◌, subst, Ok, Some, None, Option}
+use Rattle.std.proofs.Common.{◌≡◌, ℕ, zero, suc, ◌&&◌, ◌⊎◌, inl, inr, Bool, true, false, nat_eq, List, [], ◌∷◌, length, sym, ap, ◌∙◌, subst, Ok, Some, Option}
 use borrow.Author.Tests.{eqb-true}
 use Rattle.jv_tree.specs.declared.name.Ident.{Ident as Identifier}
 use Rattle.jv_tree.specs.TypeTree.{void, TypeTree}
@@ -19,11 +19,11 @@ use Rattle.jv_grammar.specs.Reader.{rest_of, closed}
 use Rattle.jv_grammar.specs.TypeReader.{name_of, ty_of}
 use Rattle.jv_grammar.specs.ExprReader.{args_of, init_of, below}
 use Rattle.jv_grammar.specs.StmtReader.{vars_of, block_of, bstmts_of, below_stmt}
-use Rattle.jv_grammar.specs.DeclReader.{ident_of, calls, names_of, parent_of, headed_of, named_of, param_of, some_params_of, params_of, constants_of, body_in, field_of, method_of, typed_of, plain_of, call_of, inner_of, ctor_of, package_of, path_of, import_of, imports_of}
+use Rattle.jv_grammar.specs.DeclReader.{ident_of, calls, names_of, parent_of, headed_of, named_of, param_of, some_params_of, params_of, constants_of, body_of, field_of, method_of, typed_of, plain_of, call_of, inner_of, ctor_of, package_of, path_of, import_of, imports_of}
 use Rattle.jv_grammar.specs.TypeBegins.{BeginsName, begun_name_none, begun_name_more, begun_name_whole, BeginsNames, begun_names_none, begun_names_one, begun_names_more, BeginsTy, begun_ty_whole, BeginsResult, begun_result_none, begun_result_ty, begun_result_whole}
 use Rattle.jv_grammar.specs.ExprBegins.{begun_args_whole}
 use Rattle.jv_grammar.specs.StmtBegins.{begun_vars_whole, BeginsBstmts, begun_bstmts_whole}
-use Rattle.jv_grammar.specs.DeclBegins.{BeginsParam, begun_param_ty, begun_param_final, BeginsSomeParams, begun_some_params_none, begun_some_params_one, begun_some_params_more, begun_some_params_whole, BeginsParams, begun_params_none, begun_params_some, begun_params_whole, begun_body_block, BeginsCtor, begun_ctor_none, begun_ctor_plain, begun_ctor_args, begun_ctor_super, BeginsConstants, begun_constants_none, begun_constants_name, begun_constants_one, begun_constants_more, begun_constants_whole, BeginsParent, begun_parent_some, BeginsParents, begun_parents_some, BeginsInterfaces, begun_interfaces_some, begun_member_result, begun_member_vars, begun_member_params, begun_member_body, begun_member_ctor_params, begun_member_ctor, begun_imember_result, begun_imember_constants, begun_imember_params, BeginsPackage, begun_package_some, BeginsImport, begun_import_name, begun_import_star, BeginsImports, begun_imports_none, begun_imports_one, begun_imports_more}
+use Rattle.jv_grammar.specs.DeclBegins.{BeginsParam, begun_param_ty, begun_param_final, BeginsSomeParams, begun_some_params_none, begun_some_params_one, begun_some_params_more, begun_some_params_whole, BeginsParams, begun_params_none, begun_params_some, BeginsBody, begun_body_block, BeginsCtor, begun_ctor_none, begun_ctor_plain, begun_ctor_args, begun_ctor_super, BeginsConstants, begun_constants_none, begun_constants_name, begun_constants_one, begun_constants_more, begun_constants_whole, BeginsParent, begun_parent_some, BeginsParents, begun_parents_some, BeginsInterfaces, begun_interfaces_some, begun_member_result, begun_member_vars, begun_member_params, begun_member_body, begun_member_ctor_params, begun_member_ctor, begun_imember_result, begun_imember_constants, begun_imember_params, begun_imember_body, BeginsPackage, begun_package_some, BeginsImport, begun_import_name, begun_import_star, BeginsImports, begun_imports_none, begun_imports_one, begun_imports_more}
 use Rattle.jv_grammar.proofs.Ending.{Stops}
 use Rattle.jv_grammar.proofs.StuckLaw.{IsStuck, StuckNames, StuckParents, StuckParam, StuckSomeParams, StuckParams, StuckConstants, BeginsMemberIn, StuckPlain, StuckInner, StuckCtor, StuckPackage, StuckImport, StuckImports}
 use Rattle.jv_grammar.proofs.Read.{bind_then, chosen, err_ok, ok_is, both, starts_is, closed_ok}
@@ -127,7 +127,7 @@ stuck_constants n (suc c) xs h = stops_then (ident_of xs) _ h (λ q. subst Begin
       | inr w ↦ absurd (ok_err w.1)
     ]))))
 
--- behind modifiers: a result, and the parameters of a method, begin a member of a class or of an interface
+-- behind modifiers: a result, and the parameters and the body of a method, begin a member of a class or of an interface
 result_begins : (i : Bool) {ks : List ℕ} {ws xs : List Terminal} → DerivesMods ks ws xs → BeginsResult xs → BeginsMemberIn i ws
 result_begins true m r = begun_imember_result m r
 result_begins false m r = begun_member_result m r
@@ -136,20 +136,24 @@ params_begin : (i : Bool) {ks : List ℕ} {r : TypeTree} {j : Identifier} {ws xs
 params_begin true m d p = begun_imember_params m d p
 params_begin false m d p = begun_member_params m d p
 
+body_begins : (i : Bool) {ks : List ℕ} {r : TypeTree} {j : Identifier} {bs : List ParamTree} {ws xs ys vs : List Terminal}
+    → DerivesMods ks ws xs → DerivesResult r xs (Ident j ∷ ys) → DerivesParams bs ys vs → BeginsBody vs → BeginsMemberIn i ws
+body_begins true m d p b = begun_imember_body m d p b
+body_begins false m d p b = begun_member_body m d p b
+
 stuck_body : (i : Bool) (n : ℕ) {ks : List ℕ} {r : TypeTree} {j : Identifier} {bs : List ParamTree} {ws xs ys : List Terminal} (vs : List Terminal)
-    → DerivesMods ks ws xs → DerivesResult r xs (Ident j ∷ ys) → DerivesParams bs ys vs → Stops (body_in i n vs) → BeginsMemberIn i ws
-stuck_body true n {bs} {ys} vs m d p h = begun_imember_params m d (begun_params_whole (subst (DerivesParams bs ys) (closed_stop {A = Option StmtTrees} semicolon None vs h) p))
-stuck_body false n vs m d p h = elim (chosen (starts semicolon vs) _ _ _ h) [
+    → DerivesMods ks ws xs → DerivesResult r xs (Ident j ∷ ys) → DerivesParams bs ys vs → Stops (body_of n vs) → BeginsMemberIn i ws
+stuck_body i n vs m d p h = elim (chosen (starts semicolon vs) _ _ _ h) [
   | inl w ↦ absurd (ok_err w.1)
-  | inr w ↦ begun_member_body m d p (begun_body_block (stops_then (block_of n vs) _ w.1 (stuck_block (below_stmt n) (sound_stmt n) (statements_are_stuck n) vs) (λ y e k. absurd (ok_err k))))
+  | inr w ↦ body_begins i m d p (begun_body_block (stops_then (block_of n vs) _ w.1 (stuck_block (below_stmt n) (sound_stmt n) (statements_are_stuck n) vs) (λ y e k. absurd (ok_err k))))
 ]
 
-stuck_method : (i : Bool) (n : ℕ) (ks : List ℕ) (r : TypeTree) {ws xs : List Terminal} (ys : List Terminal) → DerivesMods ks ws xs → DerivesResult r xs ys → Stops (method_of i n ks r ys) → BeginsMemberIn i ws
+stuck_method : (i : Bool) (n : ℕ) (ks : List ℕ) (r : TypeTree) {ws xs : List Terminal} (ys : List Terminal) → DerivesMods ks ws xs → DerivesResult r xs ys → Stops (method_of n ks r ys) → BeginsMemberIn i ws
 unfolding method_of
 stuck_method i n ks r {xs} ys m d h = stops_then (ident_of ys) _ h (λ q. result_begins i m (begun_result_whole (subst (DerivesResult r xs) (ident_stop ys q) d))) (λ j e h1.
     let d' = subst (DerivesResult r xs) (ident_ok ys j e) d in
     stops_then (params_of j.1) _ h1 (λ q. params_begin i m d' (stuck_params j.1 q)) (λ a e1 h2.
-    stops_then (body_in i n a.1) _ h2 (λ q. stuck_body i n a.1 m d' (derives_params j.1 a e1).0 q) (λ y e2 k. absurd (ok_err k))))
+    stops_then (body_of n a.1) _ h2 (λ q. stuck_body i n a.1 m d' (derives_params j.1 a e1).0 q) (λ y e2 k. absurd (ok_err k))))
 
 stuck_field : (i : Bool) (n : ℕ) (ks : List ℕ) (r : TypeTree) {ws xs : List Terminal} (ys : List Terminal) → DerivesMods ks ws xs → DerivesTy r xs ys → Stops (field_of i n ks r ys) → BeginsMemberIn i ws
 unfolding field_of

@@ -8,7 +8,7 @@ use Rattle.jv_grammar.specs.Marks.{word_class, word_extends, word_implements, wo
 use Rattle.jv_grammar.specs.TypeReader.{name_of, base_of, pairs_of, ty_of, reference_of}
 use Rattle.jv_grammar.specs.ExprReader.{Below, exprs_of, args_of, list_of, primary_of, post_of, unary_of, cond_of, expr_of, init_of, below}
 use Rattle.jv_grammar.specs.StmtReader.{BelowStmt, vars_by, effects_by, first_by, optional_by, updates_by, block_by, stmt_by, bstmt_by, bstmts_by, below_stmt}
-use Rattle.jv_grammar.specs.DeclReader.{names_of, parent_of, headed_of, params_of, constants_of, body_in, inner_of, BelowType, member_of, members_of, class_of, interface_of, below_type, type_of, types_of, package_of, import_of, imports_of, file_of}
+use Rattle.jv_grammar.specs.DeclReader.{names_of, parent_of, headed_of, params_of, constants_of, body_of, inner_of, BelowType, member_of, members_of, class_of, interface_of, below_type, type_of, types_of, package_of, import_of, imports_of, file_of}
 use Rattle.jv_grammar.specs.TypeBegins.{BeginsName, BeginsNames, BeginsBase, BeginsPairs, BeginsTy, BeginsReference}
 use Rattle.jv_grammar.specs.ExprBegins.{BeginsExpr, BeginsCond, BeginsUnary, BeginsCast, BeginsPlain, BeginsPost, BeginsPrimary, BeginsArgs, BeginsExprs, BeginsInit, BeginsList}
 use Rattle.jv_grammar.specs.StmtBegins.{BeginsVars, BeginsEffects, BeginsFirst, BeginsOptional, BeginsUpdates, BeginsBlock, BeginsBstmts, BeginsBstmt, BeginsStmt}
@@ -135,7 +135,7 @@ abbrev pub GoesConstants : Type 0
 GoesConstants = (n : ℕ) (xs : List Terminal) (d : BeginsConstants xs) (c : ℕ) → begun_deep_constants d ≤ n → HasShortRows xs → length xs ≤ c → Ends (constants_of n c xs)
 
 abbrev pub GoesBody : Type 0
-GoesBody = (n : ℕ) (xs : List Terminal) (d : BeginsBody xs) → begun_deep_body d ≤ n → HasShortRows xs → Ends (body_in false n xs)
+GoesBody = (n : ℕ) (xs : List Terminal) (d : BeginsBody xs) → begun_deep_body d ≤ n → HasShortRows xs → Ends (body_of n xs)
 
 abbrev pub GoesCtor : Type 0
 GoesCtor = (n : ℕ) (xs : List Terminal) (d : BeginsCtor xs) → begun_deep_ctor d ≤ n → HasShortRows xs → Ends (inner_of n xs)

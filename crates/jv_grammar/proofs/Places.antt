@@ -83,7 +83,7 @@ mutual
   types_imember : {m : MemberTree} {xs ys : List Terminal} → DerivesImember m xs ys → Lie (member_type_names m) xs ys
   types_imember (imember_type d) = types_type d
   types_imember (imember_field m d v) = past (closed_imember (imember_field m d v))
-  types_imember (imember_method m d q) = past (closed_imember (imember_method m d q))
+  types_imember (imember_method m d q b) = past (closed_imember (imember_method m d q b))
 
 types_types : {ts : List TypeDeclTree} {xs ys : List Terminal} → DerivesTypes ts xs ys → Lie (types_names ts) xs ys
 types_types types_none = end
@@ -135,7 +135,7 @@ mutual
   members_imember : {m : MemberTree} {xs ys : List Terminal} → DerivesImember m xs ys → Lie (names_in m) xs ys
   members_imember (imember_type d) = members_type d
   members_imember (imember_field m d v) = behind (closed_mods m) (behind (closed_ty d) (ending (fields_constants v) (skip end)))
-  members_imember (imember_method m d q) = behind (closed_mods m) (behind (closed_result d) (name (ending (past (closed_params q)) (skip end))))
+  members_imember (imember_method m d q b) = behind (closed_mods m) (behind (closed_result d) (name (past (closed_trans (closed_params q) (closed_body b)))))
 
 members_types : {ts : List TypeDeclTree} {xs ys : List Terminal} → DerivesTypes ts xs ys → Lie (members_names ts) xs ys
 members_types types_none = end

@@ -142,7 +142,7 @@ mutual
     begun_imembers_empty : {p : ℕ} {xs : List Terminal} → BeginsImembers xs → BeginsImembers (Punct p semicolon ∷ xs)
     begun_imembers_whole : {ms : MemberTrees} {xs : List Terminal} → DerivesImembers ms xs [] → BeginsImembers xs
 
-  -- imember = type | {mod} (ty Id "=" init {"," Id "=" init} ";" | (ty | "void") Id params ";"); what begins a `ty` begins a result
+  -- imember = type | {mod} (ty Id "=" init {"," Id "=" init} ";" | (ty | "void") Id params (block | ";")); what begins a `ty` begins a result
   pub data BeginsImember : List Terminal → Type 0 where
     begun_imember_none : BeginsImember []
     begun_imember_type : {xs : List Terminal} → BeginsType xs → BeginsImember xs
@@ -151,6 +151,8 @@ mutual
         → DerivesMods ks xs zs → DerivesTy r zs ws → BeginsConstants ws → BeginsImember xs
     begun_imember_params : {ks : List ℕ} {r : TypeTree} {i : Identifier} {xs zs ws : List Terminal}
         → DerivesMods ks xs zs → DerivesResult r zs (Ident i ∷ ws) → BeginsParams ws → BeginsImember xs
+    begun_imember_body : {ks : List ℕ} {r : TypeTree} {i : Identifier} {bs : List ParamTree} {xs zs ws vs : List Terminal}
+        → DerivesMods ks xs zs → DerivesResult r zs (Ident i ∷ ws) → DerivesParams bs ws vs → BeginsBody vs → BeginsImember xs
     begun_imember_whole : {m : MemberTree} {xs : List Terminal} → DerivesImember m xs [] → BeginsImember xs
 
 -- ["package" name ";"]

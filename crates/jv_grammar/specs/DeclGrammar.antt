@@ -15,7 +15,7 @@ use Rattle.jv_grammar.specs.TypeGrammar.{DerivesName, DerivesNames, DerivesTy, D
 use Rattle.jv_grammar.specs.ExprGrammar.{DerivesArgs, DerivesInit}
 use Rattle.jv_grammar.specs.StmtGrammar.{DerivesVars, DerivesBlock, DerivesBstmts}
 
--- {mod}, where mod = "public" | "protected" | "private" | "static" | "abstract" | "final"
+-- {mod}, where mod = "public" | "protected" | "private" | "static" | "abstract" | "final" | "default"
 pub data DerivesMods : List ℕ → List Terminal → List Terminal → Type 0 where
   mods_none : {ys : List Terminal} → DerivesMods [] ys ys
   mods_more : {p k : ℕ} {ks : List ℕ} {xs ys : List Terminal}
@@ -125,14 +125,14 @@ mutual
         → DerivesImember m xs zs → DerivesImembers ms zs ys → DerivesImembers (d.members m ms) xs ys
     imembers_empty : {ms : MemberTrees} {p : ℕ} {xs ys : List Terminal} → DerivesImembers ms xs ys → DerivesImembers ms (Punct p semicolon ∷ xs) ys
 
-  -- imember = type | {mod} (ty Id "=" init {"," Id "=" init} ";" | (ty | "void") Id params ";")
+  -- imember = type | {mod} (ty Id "=" init {"," Id "=" init} ";" | (ty | "void") Id params (block | ";"))
   pub data DerivesImember : MemberTree → List Terminal → List Terminal → Type 0 where
     imember_type : {x : TypeDeclTree} {xs ys : List Terminal} → DerivesType x xs ys → DerivesImember (d.nested x) xs ys
     imember_field : {ks : List ℕ} {r : TypeTree} {vs : List VarTree} {p : ℕ} {xs zs ws ys : List Terminal}
         → DerivesMods ks xs zs → DerivesTy r zs ws → DerivesConstants vs ws (Punct p semicolon ∷ ys) → DerivesImember (d.field ks r vs) xs ys
-    imember_method : {ks : List ℕ} {r : TypeTree} {i : Identifier} {bs : List ParamTree} {p : ℕ} {xs zs ws ys : List Terminal}
-        → DerivesMods ks xs zs → DerivesResult r zs (Ident i ∷ ws) → DerivesParams bs ws (Punct p semicolon ∷ ys)
-        → DerivesImember (d.method (record { mods = ks; result = r; name = i; params = bs; body = None })) xs ys
+    imember_method : {ks : List ℕ} {r : TypeTree} {i : Identifier} {bs : List ParamTree} {b : Option StmtTrees} {xs zs ws vs ys : List Terminal}
+        → DerivesMods ks xs zs → DerivesResult r zs (Ident i ∷ ws) → DerivesParams bs ws vs → DerivesBody b vs ys
+        → DerivesImember (d.method (record { mods = ks; result = r; name = i; params = bs; body = b })) xs ys
 
 -- ["package" name ";"]
 pub data DerivesPackage : Option (List Identifier) → List Terminal → List Terminal → Type 0 where

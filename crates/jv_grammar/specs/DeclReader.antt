@@ -84,28 +84,27 @@ abbrev pub fields_in : Bool → ℕ → List Terminal → Reads (List VarTree)
 fields_in true n xs = constants_of n (length xs) xs
 fields_in false n xs = vars_of n xs
 
--- what stands behind the parameters of a method; in an interface it is a `;`
-abbrev pub body_in : Bool → ℕ → List Terminal → Reads (Option StmtTrees)
-body_in true n xs = closed semicolon None xs
-body_in false n xs = if starts semicolon xs then Ok (None, rest_of xs) else (block_of n xs >>= λ r. Ok (Some r.0.1, r.1))
+-- what stands behind the parameters of a method: a block or `;`
+abbrev pub body_of : ℕ → List Terminal → Reads (Option StmtTrees)
+body_of n xs = if starts semicolon xs then Ok (None, rest_of xs) else (block_of n xs >>= λ r. Ok (Some r.0.1, r.1))
 
 -- fields behind their modifiers and their type
 unfoldable pub field_of : Bool → ℕ → List ℕ → TypeTree → List Terminal → Reads MemberTree
 field_of i n ks r xs = fields_in i n xs >>= λ v. closed semicolon (d.field ks r v.0) v.1
 
 -- a method behind its modifiers and its result
-unfoldable pub method_of : Bool → ℕ → List ℕ → TypeTree → List Terminal → Reads MemberTree
-method_of i n ks r xs = ident_of xs >>= λ j. params_of j.1 >>= λ q. body_in i n q.1 >>= λ b.
+unfoldable pub method_of : ℕ → List ℕ → TypeTree → List Terminal → Reads MemberTree
+method_of n ks r xs = ident_of xs >>= λ j. params_of j.1 >>= λ q. body_of n q.1 >>= λ b.
     Ok (d.method (record { mods = ks; result = r; name = j.0; params = q.0; body = b.0 }), b.1)
 
 -- fields or a method behind their modifiers
 unfoldable pub typed_of : Bool → ℕ → List ℕ → List Terminal → Reads MemberTree
-typed_of i n ks xs = ty_of xs >>= λ r. if calls r.1 then method_of i n ks r.0 r.1 else field_of i n ks r.0 r.1
+typed_of i n ks xs = ty_of xs >>= λ r. if calls r.1 then method_of n ks r.0 r.1 else field_of i n ks r.0 r.1
 
 -- fields or a method behind their modifiers; the result of a method may be `void`
 unfoldable pub plain_of : Bool → ℕ → List ℕ → List Terminal → Reads MemberTree
 plain_of i n ks (Keyword p k ∷ xs) =
-    if nat_eq k word_void then method_of i n ks (record { at = p; base = void; dims = 0 }) xs else typed_of i n ks (Keyword p k ∷ xs)
+    if nat_eq k word_void then method_of n ks (record { at = p; base = void; dims = 0 }) xs else typed_of i n ks (Keyword p k ∷ xs)
 plain_of i n ks xs = typed_of i n ks xs
 
 -- the call that a constructor begins with, or else none

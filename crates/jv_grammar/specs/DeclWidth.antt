@@ -75,7 +75,7 @@ abbrev mutual
   pub wide_imember : {m : MemberTree} {xs ys : List Terminal} → DerivesImember m xs ys → ℕ
   wide_imember (imember_type d) = wide_type d
   wide_imember (imember_field m d v) = max (wide_ty d) (wide_constants v)
-  wide_imember (imember_method m d q) = max (wide_result d) (wide_params q)
+  wide_imember (imember_method m d q b) = max (wide_result d) (max (wide_params q) (wide_body b))
 
 -- the most pairs of brackets that a type in the classes and interfaces of a file has
 abbrev pub wide_types : {ts : List TypeDeclTree} {xs ys : List Terminal} → DerivesTypes ts xs ys → ℕ

@@ -224,11 +224,11 @@ abbrev mutual
   deep_imembers (imembers_more d r) = max (deep_imember d) (deep_imembers r)
   deep_imembers (imembers_empty r) = deep_imembers r
 
-  -- how deep a member of an interface nests; a nested type lies one level deeper, and a method does not nest
+  -- how deep a member of an interface nests; a nested type lies one level deeper
   pub deep_imember : {m : MemberTree} {xs ys : List Terminal} → DerivesImember m xs ys → ℕ
   deep_imember (imember_type d) = suc (deep_type d)
   deep_imember (imember_field m d v) = deep_constants v
-  deep_imember (imember_method m d q) = 0
+  deep_imember (imember_method m d q b) = deep_body b
 
 -- how deep the classes and interfaces of a file nest: as deep as the deepest
 abbrev pub deep_types : {ts : List TypeDeclTree} {xs ys : List Terminal} → DerivesTypes ts xs ys → ℕ

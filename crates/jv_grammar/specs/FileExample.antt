@@ -9,7 +9,7 @@ use Rattle.jv_tree.specs.DeclTree as t
 use Rattle.jv_tree.specs.DeclTree.{MemberTrees, UnitTree}
 use Rattle.jv_grammar.specs.declared.terminal.Terminal.{Terminal}
 use Rattle.jv_grammar.specs.declared.terminal.Terminal.TheVariants.{Ident, Keyword, Punct}
-use Rattle.jv_grammar.specs.Marks.{paren_open, paren_close, brace_open, brace_close, bracket_open, bracket_close, semicolon, comma, dot, star, equals_sign, word_class, word_extends, word_final, word_implements, word_import, word_int, word_interface, word_package, word_super, word_void}
+use Rattle.jv_grammar.specs.Marks.{paren_open, paren_close, brace_open, brace_close, bracket_open, bracket_close, semicolon, comma, dot, star, equals_sign, word_class, word_default, word_extends, word_final, word_implements, word_import, word_int, word_interface, word_package, word_static, word_super, word_void}
 use Rattle.jv_grammar.specs.ExprExample.{name_at, int_at}
 use Rattle.jv_grammar.specs.DeclGrammar.{Derives}
 
@@ -99,9 +99,17 @@ pub record FilesAreToldApart (a b c : Identifier) (p q : ℕ) : Type 0 where
       (file_with true a (t.members (t.field [] (int_at q 0) (record { name = b; init = Some (e.one (name_at c.at c)) } ∷ []))
       (t.members (t.method (record { mods = []; result = void_at q; name = b; params = []; body = None }))
       (t.members (t.nested (t.type_decl c [] false [] [] t.no_members)) t.no_members))))
-  -- an interface has no fields without initializers, no bodies, and no constructors
+  -- `interface a { default void b() {} static int c(); }`
+  pub interface_methods : Derives
+      (in_interface a p (Keyword q word_default ∷ Keyword q word_void ∷ Ident b ∷ (parens p ++ Punct p brace_open ∷ Punct p brace_close
+      ∷ Keyword q word_static ∷ Keyword q word_int ∷ Ident c ∷ (parens p ++ Punct p semicolon ∷ []))))
+      (file_with true a (t.members (t.method (record { mods = word_default ∷ []; result = void_at q; name = b; params = []; body = Some s.no_stmts }))
+      (t.members (t.method (record { mods = word_static ∷ []; result = int_at q 0; name = c; params = []; body = None })) t.no_members)))
+  -- behind the parameters of a method stands no value, and `default` is no name
+  pub no_value_behind : IsNoFile (in_interface a p (Keyword q word_int ∷ Ident b ∷ (parens p ++ Punct p equals_sign ∷ Ident c ∷ Punct p semicolon ∷ [])))
+  pub no_default_name : IsNoFile (Keyword q word_class ∷ Keyword q word_default ∷ Punct p brace_open ∷ Punct p brace_close ∷ [])
+  -- an interface has no fields without initializers, and no constructors
   pub no_plain_constant : IsNoFile (in_interface a p (Keyword q word_int ∷ Ident b ∷ Punct p semicolon ∷ []))
-  pub no_body : IsNoFile (in_interface a p (Keyword q word_void ∷ Ident b ∷ (parens p ++ Punct p brace_open ∷ Punct p brace_close ∷ [])))
   pub no_constructor : IsNoFile (in_interface a p (Ident a ∷ (parens p ++ Punct p semicolon ∷ [])))
   pub no_constructor_with_body : IsNoFile (in_interface a p (Ident a ∷ (parens p ++ Punct p brace_open ∷ Punct p brace_close ∷ [])))
   -- nothing is left behind a file

@@ -85,6 +85,10 @@ word_class = 8
 abbrev pub word_continue : ℕ
 word_continue = 10
 
+-- `default`
+abbrev pub word_default : ℕ
+word_default = 11
+
 -- `do`
 abbrev pub word_do : ℕ
 word_do = 12
@@ -145,6 +149,10 @@ word_package = 31
 abbrev pub word_return : ℕ
 word_return = 35
 
+-- `static`
+abbrev pub word_static : ℕ
+word_static = 37
+
 -- `super`
 abbrev pub word_super : ℕ
 word_super = 39
@@ -161,6 +169,6 @@ word_void = 47
 abbrev pub word_while : ℕ
 word_while = 49
 
--- `public protected private static abstract final`
+-- `public protected private static abstract final default`
 abbrev pub modifiers : List ℕ
-modifiers = 34 ∷ 33 ∷ 32 ∷ 37 ∷ 0 ∷ 17 ∷ []
+modifiers = 34 ∷ 33 ∷ 32 ∷ 37 ∷ 0 ∷ 17 ∷ 11 ∷ []

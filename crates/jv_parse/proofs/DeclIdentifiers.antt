@@ -83,7 +83,7 @@ mutual
   pub counted_imember : {m : MemberTree} {xs ys : List Terminal} → DerivesImember m xs ys → idents_member m + idents_terminals ys ≡ idents_terminals xs
   counted_imember (imember_type d) = omega (arith, counted_type d)
   counted_imember (imember_field m d v) = omega (arith, counted_mods m, counted_ty d, counted_constants v)
-  counted_imember (imember_method m d q) = omega (arith, counted_mods m, counted_result d, counted_params q)
+  counted_imember (imember_method m d q b) = omega (arith, counted_mods m, counted_result d, counted_params q, counted_body b)
 
 pub counted_package : {n : Option (List Identifier)} {xs ys : List Terminal} → DerivesPackage n xs ys → idents_package n + idents_terminals ys ≡ idents_terminals xs
 counted_package package_none = omega arith

@@ -85,7 +85,7 @@ module _ (n : ℕ) where
     pub numbered_imember : {m : MemberTree} {xs ys : List Terminal} → DerivesImember m xs ys → AreNumberedTerminals n xs → IsNumberedMember n m × AreNumberedTerminals n ys
     numbered_imember (imember_type d) h = numbered_type d h
     numbered_imember (imember_field m d v) h = let a = numbered_ty n d (numbered_mods m h) in let b = numbered_constants v a.1 in ((a.0, b.0), b.1)
-    numbered_imember (imember_method m d q) h = let x = numbered_result n d (numbered_mods m h) in let y = numbered_params q x.1.1 in ((x.0, x.1.0, y.0, tt), y.1)
+    numbered_imember (imember_method m d q b) h = let x = numbered_result n d (numbered_mods m h) in let y = numbered_params q x.1.1 in let z = numbered_body b y.1 in ((x.0, x.1.0, y.0, z.0), z.1)
 
   pub numbered_package : {o : Option (List Identifier)} {xs ys : List Terminal} → DerivesPackage o xs ys → AreNumberedTerminals n xs → IsNumberedPackage n o × AreNumberedTerminals n ys
   numbered_package package_none h = (tt, h)

@@ -60,6 +60,9 @@ pub const WORD_CLASS: u8 = 8;
 /// `continue`
 pub const WORD_CONTINUE: u8 = 10;
 
+/// `default`
+pub const WORD_DEFAULT: u8 = 11;
+
 /// `do`
 pub const WORD_DO: u8 = 12;
 

@@ -1,4 +1,4 @@
-//! Modifiers (JLS 8.1.1, 8.3.1, 8.4.3).
+//! Modifiers (JLS 8.1.1, 8.3.1, 8.4.3, 9.4).
 
 ghost use Rattle.std.specs.Prelude.{◌≡◌, [], Ok, Err, nat_eq, MatchOption};
 ghost use Rattle.std.specs.List.{list_any};
@@ -10,7 +10,7 @@ ghost use Rattle.jv_parse.specs.DeclView.{StartsModifiers, modifiers_of};
 use jv_grammar::Terminal;
 use jv_parse_expr::fault::Fault;
 use jv_parse_expr::marks::{
-    WORD_ABSTRACT, WORD_FINAL, WORD_PRIVATE, WORD_PROTECTED, WORD_PUBLIC, WORD_STATIC,
+    WORD_ABSTRACT, WORD_DEFAULT, WORD_FINAL, WORD_PRIVATE, WORD_PROTECTED, WORD_PUBLIC, WORD_STATIC,
 };
 use jv_parse_expr::terminals::split;
 use jv_tree::Mods;
@@ -26,6 +26,7 @@ fn is_modifier(word: u8) -> bool
         || word == WORD_STATIC
         || word == WORD_ABSTRACT
         || word == WORD_FINAL
+        || word == WORD_DEFAULT
 }
 
 /// The modifier that stands first, and the terminals behind it.

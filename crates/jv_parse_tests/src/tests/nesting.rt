@@ -63,7 +63,7 @@ fn repeated(alloc: Global, parts: &str, times: u32) -> Result<String, AllocError
 
 /// Parts of a source, how often the second and the fourth stand at most, and the first deep token where they stand once
 /// more.
-const DEEPEST: [(&str, u32, u32); 21] = [
+const DEEPEST: [(&str, u32, u32); 23] = [
     (
         "class A { int a = @b||b&&b|b^b&b==b<b<<b+b*(@1@)@; }",
         198,
@@ -84,6 +84,12 @@ const DEEPEST: [(&str, u32, u32); 21] = [
     ("class A { int a = @new A(@@)@; }", 198, 602),
     ("@class A {@@}@", 200, 602),
     ("class A { void f() @{@@}@ }", 199, 206),
+    ("interface A { default void f() @{@@}@ }", 199, 207),
+    (
+        "interface A { static void f() { @while (b) @;@@} }",
+        197,
+        798,
+    ),
     ("class A { void f() { @if (b) @@@; } }", 197, 797),
     ("class A { void f() { @if (b) ; else @;@@} }", 197, 1191),
     ("class A { void f() { @while (b) @;@@} }", 197, 797),
