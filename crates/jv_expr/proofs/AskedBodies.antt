@@ -6,7 +6,6 @@ use Rattle.sg_reading.specs.Reading.{done, and_then}
 use Rattle.jv_diag.specs.Plain.{DiagOf}
 use Rattle.jv_instance.specs.declared.ty.Ty.{Ty}
 use Rattle.jv_layout.specs.Folder.{LayoutOf}
-use Rattle.jv_layout.specs.Linked.{IsLinked}
 use Rattle.jv_layout.specs.Readers.{is_static_of}
 use Rattle.jv_tree.specs.declared.name.Ident.{Ident}
 use Rattle.jv_tree.specs.ExprTree.{ExprTrees, InitTree}
@@ -14,7 +13,7 @@ use Rattle.jv_tree.specs.StmtTree.{StmtTrees, no_stmts, stmts}
 use Rattle.jv_tree.specs.DeclTree.{ParamTree, MethodTree, CtorTree}
 use Rattle.jv_tree.specs.Numbered.{AreNumberedNames, AreNumberedStmts, IsNumberedBody, IsNumberedCall, IsNumberedCtor, IsNumberedOption}
 use Rattle.jv_types.specs.Operators.{bad_type, is_void}
-use Rattle.jv_names.specs.Bounds.{AreTypes, AsksIn, IsListed, IsTyIn, IsTypeScope}
+use Rattle.jv_names.specs.Bounds.{AreTypes, AsksIn, IsListed, IsNamedIn, IsTyIn, IsTypeScope}
 use Rattle.jv_names.specs.Instances.{instance_bodies}
 use Rattle.jv_names.specs.Read.{SignatureOf, signature_of}
 use Rattle.jv_names.proofs.Bounds.{bodies_are_types, file_is_one}
@@ -60,9 +59,9 @@ module _ (site : SiteOf) where
 
 -- ---- places of a type
 
-module _ (l : LayoutOf) (count : ℕ) (names : List (List ℕ)) (c : Scope) (extends : List (List Ident)) (linked : IsLinked l) (is : IsTypeScope l c) (numbered : AreNumberedNames count extends) where
+module _ (l : LayoutOf) (count : ℕ) (names : List (List ℕ)) (c : Scope) (extends : List (List Ident)) (named : IsNamedIn l count) (is : IsTypeScope l c) (numbered : AreNumberedNames count extends) where
   outside : AreTypes l (instance_bodies l c)
-  outside = instance_bodies_are_types l c linked is
+  outside = instance_bodies_are_types l c named.linked is
 
   inside : AreTypes l (c ∷ instance_bodies l c)
   inside = All-cons (IsTypeScope l) c (instance_bodies l c) is outside
@@ -72,10 +71,10 @@ module _ (l : LayoutOf) (count : ℕ) (names : List (List ℕ)) (c : Scope) (ext
 
   site_in : (instances blanks : List Scope) (o : Option Ty) → AreTypes l instances → IfSome o (IsTyIn l) → IsSiteIn count (member_site l names c extends instances blanks o)
   site_in instances blanks o h k = record {
-    linked = linked;
-    file = file_is_one l linked c is;
+    named = named;
+    file = file_is_one l named.linked c is;
     class = is;
-    bodies = (bodies_are_types l c linked is).1;
+    bodies = (bodies_are_types l c named.linked is).1;
     instances = h;
     extends = numbered;
     result = k;
@@ -138,10 +137,10 @@ module _ (l : LayoutOf) (count : ℕ) (names : List (List ℕ)) (c : Scope) (ext
 -- ---- as laws
 
 pub fields_ask_in : FieldsAskIn
-fields_ask_in l count names c extends m x linked is numbered listed n = field_asks l count names c extends linked is numbered m listed x n
+fields_ask_in l count names c extends m x named is numbered listed n = field_asks l count names c extends named is numbered m listed x n
 
 pub methods_ask_in : MethodsAskIn
-methods_ask_in l count names c extends m d linked is numbered listed n = optional_asks l count names c extends linked is numbered m listed d d.body n.3
+methods_ask_in l count names c extends m d named is numbered listed n = optional_asks l count names c extends named is numbered m listed d d.body n.3
 
 pub constructors_ask_in : ConstructorsAskIn
-constructors_ask_in l count names c extends blanks m d linked is numbered listed n = ctor_asks l count names c extends linked is numbered m listed blanks d n
+constructors_ask_in l count names c extends blanks m d named is numbered listed n = ctor_asks l count names c extends named is numbered m listed blanks d n

@@ -5,7 +5,7 @@ use Rattle.std.proofs.lemmas.List.Elements.{All-nil, All-head, All-tail, All-wea
 use Rattle.sg_base.specs.declared.scope.Scope.{Scope}
 use Rattle.sg_reading.specs.Reading.{done, and_then, each}
 use Rattle.sg_reading.proofs.Asking.{any_ends, each-asked, each-ends}
-use Rattle.jv_diag.specs.declared.codes.TheConstants.{ABSTRACT, INACCESSIBLE_MEMBER, NUMBER_OF_ARGUMENTS, TOO_MANY_PATHS, UNKNOWN_METHOD}
+use Rattle.jv_diag.specs.declared.codes.TheConstants.{ABSTRACT, AMBIGUOUS_NAME, INACCESSIBLE_MEMBER, NUMBER_OF_ARGUMENTS, TOO_MANY_PATHS, UNKNOWN_METHOD}
 use Rattle.jv_diag.specs.Plain.{DiagOf}
 use Rattle.jv_instance.specs.declared.labels.TheConstants.{METH, CTOR}
 use Rattle.jv_instance.specs.declared.ty.Ty.{Ty}
@@ -24,14 +24,16 @@ use Rattle.jv_names.specs.declared.ends.Ends.{Ends}
 use Rattle.jv_names.specs.declared.ends.Ends.TheVariants.{Scopes, TooMany}
 use Rattle.jv_names.specs.declared.meaning.Meaning.{Meaning}
 use Rattle.jv_names.specs.declared.meaning.Meaning.TheVariants.{One, Nothing, Ambiguous, TooMany as TooManyTypes}
+use Rattle.jv_names.specs.declared.static_kind.StaticKind.TheVariants.{Methods}
 use Rattle.jv_names.specs.Access.{member_accessible}
 use Rattle.jv_names.specs.Bounds.{AreTypes, AsksIn, EndsOnly, IsBaseIn, IsMeant, IsMemberScope, IsReadIn, IsTyIn, IsTypeScope, MeansOnly}
 use Rattle.jv_names.specs.Chosen.{first_concrete, first_fitting, fits_all}
 use Rattle.jv_names.specs.Instances.{has_enclosing, instance_bodies}
 use Rattle.jv_names.specs.Members.{methods}
 use Rattle.jv_names.specs.Read.{SignatureOf, ctor_of, signature_of}
+use Rattle.jv_names.specs.Statics.{static_members}
 use Rattle.jv_names.specs.Superclass.{superclass}
-use Rattle.jv_names.proofs.Bounds.{methods_stay_in, object_is_type}
+use Rattle.jv_names.proofs.Bounds.{methods_stay_in, object_is_type, statics_stay_in}
 use Rattle.jv_names.proofs.Listed.{member_is_listed}
 use Rattle.jv_names.proofs.ReadBounds.{ctors_ask_in, fits_all_asks, instance_bodies_are_types, instances_ask_in, signatures_ask_in, superclasses_ask_in}
 use Rattle.jv_expr.specs.declared.argument.Argument.{Argument}
@@ -39,7 +41,7 @@ use Rattle.jv_expr.specs.declared.value.Value.{Value}
 use Rattle.jv_expr.specs.declared.front.Front.{Front}
 use Rattle.jv_expr.specs.declared.front.Front.TheVariants.{Value as ValueFront, TypeName as TypeFront}
 use Rattle.jv_expr.specs.Bounds.{IsAnything, IsSiteIn}
-use Rattle.jv_expr.specs.Calls.{Manner, above_call, above_field, applied, applied_by, arguments_fit, bad_call, bad_super, bare_among, bare_call, bare_in, base_call, call_type, called_among, called_of, chosen, chosen_abstract, chosen_of, class_call, class_methods, class_text, class_type, ctor_call, ctor_called, front_call, is_abstract_class, is_faulty_call, method_called, new_class, new_meant, or_objects, result_type, super_call, super_called, super_ctor, super_field, through, value_call, with_call, with_enclosing, with_super}
+use Rattle.jv_expr.specs.Calls.{Manner, above_call, above_field, applied, applied_by, arguments_fit, bad_call, bad_super, bare_among, bare_call, bare_in, base_call, call_type, called_among, called_of, chosen, chosen_abstract, chosen_of, class_call, class_methods, class_text, class_type, ctor_call, ctor_called, front_call, imported, imported_among, imported_call, is_abstract_class, is_faulty_call, method_called, new_class, new_meant, or_objects, result_type, super_call, super_called, super_ctor, super_field, through, value_call, with_call, with_enclosing, with_super}
 use Rattle.jv_expr.specs.Checking.{Checking}
 use Rattle.jv_expr.specs.Fields.{class_field, result_of}
 use Rattle.jv_expr.specs.Operators.{assigned_to, bad_value, unless_faulty}
@@ -207,7 +209,7 @@ module _ (site : SiteOf) (count : ℕ) (is : IsSiteIn count site) where
     class_call_asks : (how : Manner) (c : Scope) (i : Ident) (ds : List DiagOf) → IsMannerIn how → IsTypeScope L c → IsNumberedIdent count i → AsksIn L count T (class_call site how c i as' ds)
     unfolding class_call
     class_call_asks how c i ds h k n =
-        then_asks L count (EndsOnly (IsMethodScope L)) T (class_methods L c i.id) (λ e. called_among site how i as' e ds) (class_methods_asks L count is.linked c i.id k n) (λ e f. called_among_asks how i e ds h f)
+        then_asks L count (EndsOnly (IsMethodScope L)) T (class_methods L c i.id) (λ e. called_among site how i as' e ds) (class_methods_asks L count is.named.linked c i.id k n) (λ e f. called_among_asks how i e ds h f)
 
     base_call_asks : (b : TypeBase) (i : Ident) (ds : List DiagOf) → IsBaseIn L b → IsNumberedIdent count i → AsksIn L count T (base_call site b i as' ds)
     base_call_asks (Class c) i ds h n = class_call_asks (through c) c i ds h h n
@@ -235,10 +237,31 @@ module _ (site : SiteOf) (count : ℕ) (is : IsSiteIn count site) where
     bare_among_asks b i ds next (Scopes []) h k = k
     bare_among_asks b i ds next (Scopes (m ∷ ms)) h k = called_of_asks (record { through = None; free = has_instance site b; concrete = false; on_value = false }) i (m ∷ ms) ds tt h
 
+    imported_among_asks : (i : Ident) (ds : List DiagOf) (next : Checking Ty) (e : Ends) → EndsOnly (IsMethodScope L) e → AsksIn L count T next → AsksIn L count T (imported_among site i as' ds next e)
+    imported_among_asks i ds next TooMany h k = bad_call_asks i TOO_MANY_PATHS ds
+    imported_among_asks i ds next (Scopes []) h k = k
+    imported_among_asks i ds next (Scopes (m ∷ [])) h k = method_called_asks imported i m ds tt (All-head (IsMethodScope L) m [] h)
+    imported_among_asks i ds next (Scopes (m ∷ n ∷ ms)) h k = bad_call_asks i AMBIGUOUS_NAME ds
+
+    -- of the methods of a name that single imports bring, or that those on demand bring
+    brought_methods_ask : (all : Bool) (i : Ident) → IsNumberedIdent count i → AsksIn L count (EndsOnly (IsMethodScope L)) (static_members L site.file all Methods i.id)
+    brought_methods_ask all i n =
+        of_names L count (EndsOnly (IsMethodScope L)) (static_members L site.file all Methods i.id) (statics_stay_in L count site.file all Methods i.id is.named n)
+
+    imported_call_asks : (i : Ident) (ds : List DiagOf) → IsNumberedIdent count i → AsksIn L count T (imported_call site i as' ds)
+    unfolding imported_call
+    imported_call_asks i ds n =
+        let last : Checking Ty = bad_call site i UNKNOWN_METHOD ds in
+        let further : Checking Ty = and_then (static_members L site.file true Methods i.id) (imported_among site i as' ds last) in
+        then_asks L count (EndsOnly (IsMethodScope L)) T (static_members L site.file false Methods i.id) (imported_among site i as' ds further) (brought_methods_ask false i n)
+        (λ e f. imported_among_asks i ds further e f
+        (then_asks L count (EndsOnly (IsMethodScope L)) T (static_members L site.file true Methods i.id) (imported_among site i as' ds last) (brought_methods_ask true i n)
+        (λ e f. imported_among_asks i ds last e f (bad_call_asks i UNKNOWN_METHOD ds))))
+
     bare_in_asks : (bs : List Scope) (i : Ident) (ds : List DiagOf) → AreTypes L bs → IsNumberedIdent count i → AsksIn L count T (bare_in site bs i as' ds)
-    bare_in_asks [] i ds h n = bad_call_asks i UNKNOWN_METHOD ds
+    bare_in_asks [] i ds h n = imported_call_asks i ds n
     bare_in_asks (b ∷ bs) i ds h n =
-        then_asks L count (EndsOnly (IsMethodScope L)) T (methods L b i.id) (bare_among site b i as' ds (bare_in site bs i as' ds)) (methods_asks L count is.linked b i.id (All-head (IsTypeScope L) b bs h) n)
+        then_asks L count (EndsOnly (IsMethodScope L)) T (methods L b i.id) (bare_among site b i as' ds (bare_in site bs i as' ds)) (methods_asks L count is.named.linked b i.id (All-head (IsTypeScope L) b bs h) n)
         (λ e f. bare_among_asks b i ds (bare_in site bs i as' ds) e f (bare_in_asks bs i ds (All-tail (IsTypeScope L) b bs h) n))
 
     pub bare_call_asks : (i : Ident) (ds : List DiagOf) → IsNumberedIdent count i → AsksIn L count T (bare_call site i as' ds)
@@ -248,7 +271,7 @@ module _ (site : SiteOf) (count : ℕ) (is : IsSiteIn count site) where
     -- ---- `super`
 
     above_asks : AsksIn L count (IsTypeScope L) (superclass L site.class site.extends)
-    above_asks = superclasses_ask_in L count site.class site.extends is.linked is.class is.extends
+    above_asks = superclasses_ask_in L count site.class site.extends is.named is.class is.extends
 
     above_call_asks : (i : Ident) (ds : List DiagOf) → IsNumberedIdent count i → AsksIn L count T (above_call site i as' ds)
     unfolding above_call
@@ -310,7 +333,7 @@ module _ (site : SiteOf) (count : ℕ) (is : IsSiteIn count site) where
         (λ called. and_then (has_enclosing L (instance_bodies L site.class) s (owner_scope L s)) (λ enclosed. done (with_enclosing enclosed site at s called.1)))
         (ctor_call_asks None s at ds tt h)
         (λ called u. then_asks L count IsAnything IsAnything (has_enclosing L (instance_bodies L site.class) s (owner_scope L s)) (λ enclosed. done (with_enclosing enclosed site at s called.1))
-        (instances_ask_in L count (instance_bodies L site.class) s (owner_scope L s) (instance_bodies_are_types L site.class is.linked is.class))
+        (instances_ask_in L count (instance_bodies L site.class) s (owner_scope L s) (instance_bodies_are_types L site.class is.named.linked is.class))
         (λ enclosed e. done_asks L count IsAnything (with_enclosing enclosed site at s called.1) tt))
 
     pub super_called_asks : (at : ℕ) (ds : List DiagOf) → AsksIn L count IsAnything (super_called site at as' ds)
@@ -323,7 +346,7 @@ module _ (site : SiteOf) (count : ℕ) (is : IsSiteIn count site) where
   unfolding above_field
   above_field_asks i ds n =
       then_asks L count (IsTypeScope L) (IsFirstValueIn L) (superclass L site.class site.extends) (λ s. class_field site None false s i ds)
-      (superclasses_ask_in L count site.class site.extends is.linked is.class is.extends)
+      (superclasses_ask_in L count site.class site.extends is.named is.class is.extends)
       (λ s e. class_field_asks site count is None false s i ds tt e n)
 
   pub super_field_asks : (at : ℕ) (i : Ident) (ds : List DiagOf) → IsNumberedIdent count i → AsksIn L count (IsFirstValueIn L) (super_field site at i ds)

@@ -104,13 +104,13 @@ module _ (site : SiteOf) (count : ℕ) (is : IsSiteIn count site) where
   pub written_at_asks : (t : TypeTree) (ds : List DiagOf) → IsNumberedType count t → AsksIn L count T (written_at site t ds)
   written_at_asks t ds n =
       then_asks L count (IsWrittenIn L) T (written_type L site.names site.file site.bodies t) (λ w. done (w.ty, ds ++ w.diags))
-      (of_names L count (IsWrittenIn L) (written_type L site.names site.file site.bodies t) (written_types_stay_in L count site.names site.file site.bodies t is.file is.bodies n))
+      (of_names L count (IsWrittenIn L) (written_type L site.names site.file site.bodies t) (written_types_stay_in L count site.names site.file site.bodies t is.named is.file is.bodies n))
       (λ w e. done_asks L count T (w.ty, ds ++ w.diags) e)
 
   named_at_asks : (ids : List Ident) (ds : List DiagOf) → IsNumberedName count ids → AsksIn L count (IsFirstReferenceIn L) (named_at site ids ds)
   named_at_asks ids ds n =
       then_asks L count (IsReferenceIn L TypeName) (IsFirstReferenceIn L) (reference L site.file site.bodies ids) (λ r. done (r, ds ++ reference_diags L site.names site.file ids r))
-      (of_names L count (IsReferenceIn L TypeName) (reference L site.file site.bodies ids) (reference_stays L count site.file site.bodies ids is.file is.bodies n))
+      (of_names L count (IsReferenceIn L TypeName) (reference L site.file site.bodies ids) (reference_stays L count is.named site.file site.bodies ids is.file is.bodies n))
       (λ r e. done_asks L count (IsFirstReferenceIn L) (r, ds ++ reference_diags L site.names site.file ids r) e)
 
   module _ (vs : List Local) (locals : AreLocalsIn L vs) where

@@ -2,7 +2,7 @@
 use Rattle.std.proofs.Common.{◌==◌, not, ℕ, ◌<◌, Bool, true, false, cond, IsTrue, List, [], ◌∷◌, ◌++◌, All, Option, Some, None, IfSome, refl}
 use Rattle.std.proofs.lemmas.List.Elements.{All-head, All-tail}
 use Rattle.sg_base.specs.declared.scope.Scope.{Scope}
-use Rattle.sg_reading.specs.Reading.{done}
+use Rattle.sg_reading.specs.Reading.{done, and_then}
 use Rattle.jv_diag.specs.Plain.{DiagOf}
 use Rattle.jv_instance.specs.declared.labels.TheConstants.{FIELD}
 use Rattle.jv_layout.specs.Folder.{LayoutOf}
@@ -10,18 +10,23 @@ use Rattle.jv_layout.specs.Scopes.{place_of, root_scope}
 use Rattle.jv_tree.specs.declared.name.Ident.{Ident}
 use Rattle.jv_tree.specs.declared.names.NameId.{NameId}
 use Rattle.jv_tree.specs.Numbered.{IsNumberedIdent, IsNumberedName}
+use Rattle.jv_names.specs.declared.ends.Ends.{Ends}
+use Rattle.jv_names.specs.declared.ends.Ends.TheVariants.{Scopes, TooMany as TooManyEnds}
 use Rattle.jv_names.specs.declared.meaning.Meaning.{Meaning}
 use Rattle.jv_names.specs.declared.meaning.Meaning.TheVariants.{One, Nothing, Ambiguous, TooMany}
+use Rattle.jv_names.specs.declared.static_kind.StaticKind.TheVariants.{Fields}
 use Rattle.jv_names.specs.Access.{type_accessible}
-use Rattle.jv_names.specs.Bounds.{is_start, AreTypes, AsksIn, IsMemberScope, IsPackageScope, IsTyIn, IsTypeScope, MeansOnly}
+use Rattle.jv_names.specs.Bounds.{is_start, AreTypes, AsksIn, EndsOnly, IsMemberScope, IsPackageScope, IsTyIn, IsTypeScope, MeansOnly}
 use Rattle.jv_names.specs.Members.{field}
-use Rattle.jv_names.specs.Names.{member_type, package_type, simple_type, subpackage}
+use Rattle.jv_names.specs.Names.{member_type, package_type, subpackage}
+use Rattle.jv_names.specs.Statics.{static_members}
+use Rattle.jv_names.specs.TypeNames.{simple_type}
 use Rattle.jv_names.specs.Written.{start_of, written}
-use Rattle.jv_names.proofs.Bounds.{fields_stay_in, member_type_stays, package_starts, package_type_stays, simple_type_stays, subpackage_stays, type_accessible_stays}
+use Rattle.jv_names.proofs.Bounds.{fields_stay_in, member_type_stays, package_starts, package_type_stays, simple_type_stays, statics_stay_in, subpackage_stays, type_accessible_stays}
 use Rattle.jv_expr.specs.declared.denoted.Denoted.{Denoted}
 use Rattle.jv_expr.specs.declared.denoted.Denoted.TheVariants.{Variable, TypeName, Package, Nothing as Unknown}
 use Rattle.jv_expr.specs.declared.found_field.FoundField.{FoundField}
-use Rattle.jv_expr.specs.declared.found_field.FoundField.TheVariants.{In, Several, TooMany as TooManyFields, Nowhere}
+use Rattle.jv_expr.specs.declared.found_field.FoundField.TheVariants.{In, Imported, Several, TooMany as TooManyFields, Nowhere}
 use Rattle.jv_expr.specs.declared.front.Front.{Front}
 use Rattle.jv_expr.specs.declared.front.Front.TheVariants.{Value as ValueFront, TypeName as TypeFront}
 use Rattle.jv_expr.specs.declared.local.Local.{Local}
@@ -31,7 +36,7 @@ use Rattle.jv_expr.specs.Checking.{Checking}
 use Rattle.jv_expr.specs.Fields.{bad_named, field_found, field_on}
 use Rattle.jv_expr.specs.Operators.{bad_value}
 use Rattle.jv_expr.specs.Site.{SiteOf, has_instance, title, with_fault, with_fault_if, with_named}
-use Rattle.jv_expr.specs.Variables.{as_variable, denoted, ended_front, ended_value, field_outward, further_parts, head_found, head_part, in_body, latest, local_value, many_part, member_meant, name_front, name_value, next_part, next_part_of, or_field, or_head, outward_value, package_meant, several_part, simple_name, static_meant, type_meant, type_part}
+use Rattle.jv_expr.specs.Variables.{as_variable, denoted, ended_front, ended_value, field_around, field_outward, further_parts, head_found, head_part, imported_field, in_body, in_import, latest, local_value, many_part, member_meant, name_front, name_value, next_part, next_part_of, or_field, or_head, or_imported, outward_value, package_meant, several_part, simple_name, static_meant, type_meant, type_part}
 use Rattle.jv_names.specs.Replies.{Rule}
 use Rattle.jv_expr.proofs.AskedFields.{IsFirstValueIn, bad_named_asks, field_found_asks, field_on_asks, named_field_asks}
 use Rattle.jv_expr.proofs.AskedSteps.{done_asks, of_names, then_asks}
@@ -45,9 +50,10 @@ IsLocalIn l v = IsTyIn l v.ty
 abbrev pub AreLocalsIn : LayoutOf → List Local → Type 0
 AreLocalsIn l vs = All (IsLocalIn l) vs
 
--- where a field was found, that is a field in the body of a type
+-- where a field was found, that is a field, in the body of a type or imported
 abbrev pub IsFoundIn : LayoutOf → FoundField → Type 0
 IsFoundIn l (In b m) = IsTypeScope l b × IsMemberScope l FIELD m
+IsFoundIn l (Imported m) = IsMemberScope l FIELD m
 IsFoundIn l Several = Unit {0}
 IsFoundIn l TooManyFields = Unit {0}
 IsFoundIn l Nowhere = Unit {0}
@@ -99,15 +105,48 @@ module _ (site : SiteOf) (count : ℕ) (is : IsSiteIn count site) where
       (of_names L count (MeansOnly (IsMemberScope L FIELD)) (field L b n) (fields_stay_in L count b n (All-head (IsTypeScope L) b bs h) k))
       (λ m e. in_body_asks b m (field_outward L bs n) (All-head (IsTypeScope L) b bs h) e (field_outward_asks bs n (All-tail (IsTypeScope L) b bs h) k))
 
+  in_import_asks : (e : Ends) (next : Rule FoundField) → EndsOnly (IsMemberScope L FIELD) e → AsksIn L count (IsFoundIn L) next → AsksIn L count (IsFoundIn L) (in_import e next)
+  in_import_asks TooManyEnds next h k = done_asks L count (IsFoundIn L) TooManyFields tt
+  in_import_asks (Scopes []) next h k = k
+  in_import_asks (Scopes (m ∷ [])) next h k = done_asks L count (IsFoundIn L) (Imported m) (All-head (IsMemberScope L FIELD) m [] h)
+  in_import_asks (Scopes (m ∷ n ∷ ms)) next h k = done_asks L count (IsFoundIn L) Several tt
+
+  -- of the fields of a name that single imports bring, or that those on demand bring
+  brought_fields_ask : (all : Bool) (n : NameId) → n.0 < count → AsksIn L count (EndsOnly (IsMemberScope L FIELD)) (static_members L site.file all Fields n)
+  brought_fields_ask all n k = of_names L count (EndsOnly (IsMemberScope L FIELD)) (static_members L site.file all Fields n) (statics_stay_in L count site.file all Fields n is.named k)
+
+  imported_field_asks : (n : NameId) → n.0 < count → AsksIn L count (IsFoundIn L) (imported_field L site.file n)
+  unfolding imported_field
+  imported_field_asks n k =
+      let last : Rule FoundField = done Nowhere in
+      let further : Rule FoundField = and_then (static_members L site.file true Fields n) (λ a. in_import a last) in
+      then_asks L count (EndsOnly (IsMemberScope L FIELD)) (IsFoundIn L) (static_members L site.file false Fields n) (λ s. in_import s further) (brought_fields_ask false n k)
+      (λ s h. in_import_asks s further h
+      (then_asks L count (EndsOnly (IsMemberScope L FIELD)) (IsFoundIn L) (static_members L site.file true Fields n) (λ a. in_import a last) (brought_fields_ask true n k)
+      (λ a e. in_import_asks a last e (done_asks L count (IsFoundIn L) Nowhere tt))))
+
+  or_imported_asks : (n : NameId) (f : FoundField) → n.0 < count → IsFoundIn L f → AsksIn L count (IsFoundIn L) (or_imported L site.file n f)
+  or_imported_asks n Nowhere k h = imported_field_asks n k
+  or_imported_asks n (In b m) k h = done_asks L count (IsFoundIn L) (In b m) h
+  or_imported_asks n (Imported m) k h = done_asks L count (IsFoundIn L) (Imported m) h
+  or_imported_asks n Several k h = done_asks L count (IsFoundIn L) Several tt
+  or_imported_asks n TooManyFields k h = done_asks L count (IsFoundIn L) TooManyFields tt
+
+  pub field_around_asks : (n : NameId) → n.0 < count → AsksIn L count (IsFoundIn L) (field_around site n)
+  unfolding field_around
+  field_around_asks n k =
+      then_asks L count (IsFoundIn L) (IsFoundIn L) (field_outward L site.bodies n) (or_imported L site.file n) (field_outward_asks site.bodies n is.bodies k) (λ f h. or_imported_asks n f k h)
+
   outward_asks : (i : Ident) (f : FoundField) (ds : List DiagOf) → IsFoundIn L f → AsksIn L count (IsFirstValueIn L) (outward_value site i f ds)
   outward_asks i (In b m) ds h = field_found_asks site count is None (has_instance site b) true i m ds tt h.1
+  outward_asks i (Imported m) ds h = field_found_asks site count is None true false i m ds tt h
   outward_asks i Several ds h = bad_named_asks site count is i 43 ds
   outward_asks i TooManyFields ds h = bad_named_asks site count is i 41 ds
   outward_asks i Nowhere ds h = bad_named_asks site count is i 40 ds
 
   or_field_asks : (v : Option Local) (i : Ident) (ds : List DiagOf) → IfSome v (IsLocalIn L) → IsNumberedIdent count i → AsksIn L count (IsFirstValueIn L) (or_field site v i ds)
   or_field_asks None i ds h n =
-      then_asks L count (IsFoundIn L) (IsFirstValueIn L) (field_outward L site.bodies i.id) (λ f. outward_value site i f ds) (field_outward_asks site.bodies i.id is.bodies n) (λ f e. outward_asks i f ds e)
+      then_asks L count (IsFoundIn L) (IsFirstValueIn L) (field_around site i.id) (λ f. outward_value site i f ds) (field_around_asks i.id n) (λ f e. outward_asks i f ds e)
   or_field_asks (Some v) i ds h n = done_asks L count (IsFirstValueIn L) (local_value v, ds) h
 
   pub simple_name_asks : (vs : List Local) (i : Ident) (ds : List DiagOf) → AreLocalsIn L vs → IsNumberedIdent count i → AsksIn L count (IsFirstValueIn L) (simple_name site vs i ds)
@@ -151,16 +190,17 @@ module _ (site : SiteOf) (count : ℕ) (is : IsSiteIn count site) where
 
   head_found_asks : (i : Ident) (f : FoundField) (ds : List DiagOf) → IsNumberedIdent count i → IsFoundIn L f → AsksIn L count D (head_found site i f ds)
   head_found_asks i (In b m) ds n h = as_variable_asks (outward_value site i (In b m) ds) (outward_asks i (In b m) ds h)
+  head_found_asks i (Imported m) ds n h = as_variable_asks (outward_value site i (Imported m) ds) (outward_asks i (Imported m) ds h)
   head_found_asks i Several ds n h = as_variable_asks (outward_value site i Several ds) (outward_asks i Several ds tt)
   head_found_asks i TooManyFields ds n h = as_variable_asks (outward_value site i TooManyFields ds) (outward_asks i TooManyFields ds tt)
   head_found_asks i Nowhere ds n h =
       then_asks L count (MeansOnly (IsTypeScope L)) D (simple_type L site.file site.bodies i.id) (λ m. type_meant site root_scope (i ∷ []) i m ds)
-      (of_names L count (MeansOnly (IsTypeScope L)) (simple_type L site.file site.bodies i.id) (simple_type_stays L count i.id n site.file is.file site.bodies is.bodies))
+      (of_names L count (MeansOnly (IsTypeScope L)) (simple_type L site.file site.bodies i.id) (simple_type_stays L count is.named i.id n site.file is.file site.bodies is.bodies))
       (λ m e. type_meant_asks root_scope (i ∷ []) i m ds refl n e)
 
   or_head_asks : (v : Option Local) (i : Ident) (ds : List DiagOf) → IfSome v (IsLocalIn L) → IsNumberedIdent count i → AsksIn L count D (or_head site v i ds)
   or_head_asks None i ds h n =
-      then_asks L count (IsFoundIn L) D (field_outward L site.bodies i.id) (λ f. head_found site i f ds) (field_outward_asks site.bodies i.id is.bodies n) (λ f e. head_found_asks i f ds n e)
+      then_asks L count (IsFoundIn L) D (field_around site i.id) (λ f. head_found site i f ds) (field_around_asks i.id n) (λ f e. head_found_asks i f ds n e)
   or_head_asks (Some v) i ds h n = done_asks L count D (Variable (local_value v), ds) h
 
   head_part_asks : (vs : List Local) (i : Ident) (ds : List DiagOf) → AreLocalsIn L vs → IsNumberedIdent count i → AsksIn L count D (head_part site vs i ds)

@@ -5,7 +5,7 @@ use Rattle.sg_base.specs.declared.scope.Scope.{Scope}
 use Rattle.sg_reading.specs.Reading.{and_then}
 use Rattle.sg_reading.specs.Stop.{Reads}
 use Rattle.sg_reading.proofs.Steps.{done_reads, then_ok, then_err}
-use Rattle.jv_diag.specs.declared.codes.TheConstants.{TOO_MANY_PATHS, UNKNOWN_METHOD}
+use Rattle.jv_diag.specs.declared.codes.TheConstants.{TOO_MANY_PATHS}
 use Rattle.jv_diag.specs.Plain.{DiagOf}
 use Rattle.jv_instance.specs.declared.ty.Ty.{Ty}
 use Rattle.jv_layout.specs.Folder.{LayoutOf}
@@ -15,7 +15,7 @@ use Rattle.jv_names.specs.declared.ends.Ends.{Ends}
 use Rattle.jv_names.specs.declared.ends.Ends.TheVariants.{Scopes, TooMany}
 use Rattle.jv_names.specs.Members.{methods}
 use Rattle.jv_expr.specs.declared.argument.Argument.{Argument}
-use Rattle.jv_expr.specs.Calls.{bare_among, bare_in, called_of}
+use Rattle.jv_expr.specs.Calls.{bare_among, bare_in, called_of, imported_call}
 use Rattle.jv_expr.specs.Checking.{Checking}
 use Rattle.jv_expr.specs.Site.{SiteOf, has_instance, with_named}
 use Rattle.jv_expr.proofs.CallSteps.{Need, Replies, call_steps}
@@ -59,7 +59,8 @@ module _ (reply : Replies) (site : SiteOf) (i : Ident) (as' : List Argument) (ds
             go [] some h = absurd (omega (arith, some))
             go (m ∷ more) some h = h
 
-    pub no_body : (v : Ty × List DiagOf) → length bodies ≤ n → v ≡ (bad_type, with_named site i UNKNOWN_METHOD ds) → Reads reply (bare_in site (drop n bodies) i as' ds) (Ok v)
-    no_body v past is = subst (λ (r : Checking Ty). Reads reply r (Ok v)) (sym (at_drop_all (λ (bs : List Scope). bare_in site bs i as' ds) bodies n past)) (done_reads reply (bad_type, with_named site i UNKNOWN_METHOD ds) v (sym is))
+    -- past the bodies, a method that imports bring
+    pub no_body : (x : Result (Ty × List DiagOf) Need) → length bodies ≤ n → Reads reply (imported_call site i as' ds) x → Reads reply (bare_in site (drop n bodies) i as' ds) x
+    no_body x past h = subst (λ (r : Checking Ty). Reads reply r x) (sym (at_drop_all (λ (bs : List Scope). bare_in site bs i as' ds) bodies n past)) h
 
 pub ruleset bare_steps = (call_steps, body_unknown, too_many, next_body, this_body, no_body)

@@ -5,6 +5,7 @@ pub mod PartSteps
 pub mod CallSteps
 pub mod ApplyingSteps
 pub mod ChoosingSteps
+pub mod ImportedSteps
 pub mod BareSteps
 pub mod Locals
 pub mod StatementEnds

@@ -2,7 +2,7 @@
 use Rattle.std.specs.Prelude.{ℕ, ◌==◌, ◌&&◌, ◌||◌, not, nat_lt, Bool, true, false, cond, List, [], ◌∷◌, length, Option, None, Some, is_some, codes}
 use Rattle.sg_base.specs.declared.scope.Scope.{Scope}
 use Rattle.sg_reading.specs.Reading.{done, and_then, each}
-use Rattle.jv_diag.specs.declared.codes.TheConstants.{ABSTRACT, INACCESSIBLE_MEMBER, NO_ENCLOSING_INSTANCE, NO_INSTANCE, NUMBER_OF_ARGUMENTS, STATIC_OF_INTERFACE, TOO_MANY_PATHS, UNKNOWN_METHOD}
+use Rattle.jv_diag.specs.declared.codes.TheConstants.{ABSTRACT, AMBIGUOUS_NAME, INACCESSIBLE_MEMBER, NO_ENCLOSING_INSTANCE, NO_INSTANCE, NUMBER_OF_ARGUMENTS, STATIC_OF_INTERFACE, TOO_MANY_PATHS, UNKNOWN_METHOD}
 use Rattle.jv_diag.specs.Plain.{DiagOf}
 use Rattle.jv_instance.specs.declared.ty.Ty.{Ty}
 use Rattle.jv_instance.specs.declared.type_base.TypeBase.{TypeBase}
@@ -18,12 +18,14 @@ use Rattle.jv_names.specs.declared.ends.Ends.{Ends}
 use Rattle.jv_names.specs.declared.ends.Ends.TheVariants.{Scopes, TooMany}
 use Rattle.jv_names.specs.declared.meaning.Meaning.{Meaning}
 use Rattle.jv_names.specs.declared.meaning.Meaning.TheVariants.{One, Nothing, Ambiguous, TooMany as TooManyTypes}
+use Rattle.jv_names.specs.declared.static_kind.StaticKind.TheVariants.{Methods}
 use Rattle.jv_names.specs.Access.{member_accessible}
 use Rattle.jv_names.specs.Chosen.{first_concrete, first_fitting}
 use Rattle.jv_names.specs.Instances.{has_enclosing, instance_bodies}
 use Rattle.jv_names.specs.Members.{methods}
 use Rattle.jv_names.specs.Read.{SignatureOf, ctor_of, signature_of}
 use Rattle.jv_names.specs.Replies.{Rule}
+use Rattle.jv_names.specs.Statics.{static_members}
 use Rattle.jv_names.specs.Superclass.{superclass}
 use Rattle.jv_expr.specs.declared.argument.Argument.{Argument}
 use Rattle.jv_expr.specs.declared.front.Front.{Front}
@@ -173,19 +175,36 @@ front_call_of site (TypeFront t) i as' ds = class_call site (record { through = 
 unfoldable pub front_call : SiteOf → Front → Ident → List Argument → List DiagOf → Checking Ty
 front_call site f i as' ds = front_call_of site f i as' ds
 
--- the methods of a name in the bodies outward: of the first that has some; none is found where no body is left
+-- the manner of a call of an imported method
+abbrev pub imported : Manner
+imported = record { through = None; free = true; concrete = false; on_value = false }
+
+-- of the static methods of a name that imports bring: one, several, or none and further
+abbrev pub imported_among : SiteOf → Ident → List Argument → List DiagOf → Checking Ty → Ends → Checking Ty
+imported_among site i as' ds next TooMany = bad_call site i TOO_MANY_PATHS ds
+imported_among site i as' ds next (Scopes []) = next
+imported_among site i as' ds next (Scopes (m ∷ [])) = method_called site imported i as' m ds
+imported_among site i as' ds next (Scopes (m ∷ k ∷ ms)) = bad_call site i AMBIGUOUS_NAME ds
+
+-- a static method that single static imports bring is called, and else one that those on demand bring
+unfoldable pub imported_call : SiteOf → Ident → List Argument → List DiagOf → Checking Ty
+imported_call site i as' ds =
+    and_then (static_members site.layout site.file false Methods i.id) (imported_among site i as' ds
+    (and_then (static_members site.layout site.file true Methods i.id) (imported_among site i as' ds (bad_call site i UNKNOWN_METHOD ds))))
+
+-- the methods of a name in the bodies outward: of the first that has some; where no body is left, those that imports bring
 abbrev pub bare_among : SiteOf → Scope → Ident → List Argument → List DiagOf → Checking Ty → Ends → Checking Ty
 bare_among site b i as' ds next TooMany = bad_call site i TOO_MANY_PATHS ds
 bare_among site b i as' ds next (Scopes []) = next
 bare_among site b i as' ds next (Scopes (m ∷ ms)) =
     called_of site (record { through = None; free = has_instance site b; concrete = false; on_value = false }) i as' (m ∷ ms) ds
 
--- a bare call: of the innermost body that has a method of the name
+-- a bare call: of the innermost body that has a method of the name, and else of a static method that imports of the file bring
 abbrev pub bare_in : SiteOf → List Scope → Ident → List Argument → List DiagOf → Checking Ty
-bare_in site [] i as' ds = bad_call site i UNKNOWN_METHOD ds
+bare_in site [] i as' ds = imported_call site i as' ds
 bare_in site (b ∷ bs) i as' ds = and_then (methods site.layout b i.id) (bare_among site b i as' ds (bare_in site bs i as' ds))
 
--- a method is called by its name alone, in the bodies around the place
+-- a method is called by its name alone: of the bodies around the place, or an imported one
 unfoldable pub bare_call : SiteOf → Ident → List Argument → List DiagOf → Checking Ty
 bare_call site i as' ds = bare_in site site.bodies i as' ds
 

@@ -4,6 +4,7 @@ use Rattle.std.specs.List.{list_any}
 use Rattle.sg_base.specs.declared.scope.Scope.{Scope}
 use Rattle.sg_base.specs.Scope.{is_scope}
 use Rattle.sg_reading.specs.Reading.{done, and_then}
+use Rattle.jv_diag.specs.declared.codes.TheConstants.{AMBIGUOUS_NAME, INACCESSIBLE_MEMBER, NO_INSTANCE, TOO_MANY_PATHS, UNKNOWN_NAME}
 use Rattle.jv_diag.specs.Plain.{DiagOf}
 use Rattle.jv_instance.specs.declared.ty.Ty.{Ty}
 use Rattle.jv_instance.specs.declared.type_base.TypeBase.{TypeBase}
@@ -43,7 +44,7 @@ lacks_instance site free m = not (free || is_static_of site.layout m)
 
 -- a member that is not accessible, and one that lacks an instance, at the identifier that names it
 abbrev pub with_access : SiteOf → Bool → Bool → Ident → List DiagOf → List DiagOf
-with_access site ok lacks i ds = with_named_if lacks site i 48 (with_named_if (not ok) site i 44 ds)
+with_access site ok lacks i ds = with_named_if lacks site i NO_INSTANCE (with_named_if (not ok) site i INACCESSIBLE_MEMBER ds)
 
 -- a field where it may be named, and else a bad value
 abbrev pub field_by : SiteOf → Bool → Ident → Scope → Bool → Bool → List DiagOf → Checking Value
@@ -63,9 +64,9 @@ bad_named site i code ds = done (bad_value, with_named site i code ds)
 -- a field by what its name means; where that is not one field, a bad value with a diagnostic
 abbrev pub field_meant : SiteOf → Option Scope → Bool → Bool → Ident → Meaning → List DiagOf → Checking Value
 field_meant site through free own i (One m) ds = field_found site through free own i m ds
-field_meant site through free own i Nothing ds = bad_named site i 40 ds
-field_meant site through free own i Ambiguous ds = bad_named site i 43 ds
-field_meant site through free own i TooMany ds = bad_named site i 41 ds
+field_meant site through free own i Nothing ds = bad_named site i UNKNOWN_NAME ds
+field_meant site through free own i Ambiguous ds = bad_named site i AMBIGUOUS_NAME ds
+field_meant site through free own i TooMany ds = bad_named site i TOO_MANY_PATHS ds
 
 -- a field of a class or an interface
 unfoldable pub class_field : SiteOf → Option Scope → Bool → Scope → Ident → List DiagOf → Checking Value
@@ -74,17 +75,17 @@ class_field site through own c i ds = and_then (field site.layout c i.id) (λ m.
 -- the length of an array, which is final
 abbrev pub array_field : SiteOf → Ident → List DiagOf → Checking Value
 array_field site i ds =
-    cond (bytes_eq (text_of site.names i.id.0) (codes "length")) (done (record { ty = plain Int; sealed = Some i.id }, ds)) (bad_named site i 40 ds)
+    cond (bytes_eq (text_of site.names i.id.0) (codes "length")) (done (record { ty = plain Int; sealed = Some i.id }, ds)) (bad_named site i UNKNOWN_NAME ds)
 
 -- a field behind a value of this base: of a class or an interface; others have none, and of a bad one nothing is said
 abbrev pub base_field : SiteOf → Bool → TypeBase → Ident → List DiagOf → Checking Value
 base_field site own (Class c) i ds = class_field site (Some c) own c i ds
-base_field site own Boolean i ds = bad_named site i 40 ds
-base_field site own Char i ds = bad_named site i 40 ds
-base_field site own Int i ds = bad_named site i 40 ds
-base_field site own Long i ds = bad_named site i 40 ds
-base_field site own Null i ds = bad_named site i 40 ds
-base_field site own Void i ds = bad_named site i 40 ds
+base_field site own Boolean i ds = bad_named site i UNKNOWN_NAME ds
+base_field site own Char i ds = bad_named site i UNKNOWN_NAME ds
+base_field site own Int i ds = bad_named site i UNKNOWN_NAME ds
+base_field site own Long i ds = bad_named site i UNKNOWN_NAME ds
+base_field site own Null i ds = bad_named site i UNKNOWN_NAME ds
+base_field site own Void i ds = bad_named site i UNKNOWN_NAME ds
 base_field site own Bad i ds = done (bad_value, ds)
 
 -- a field behind a value of this type

@@ -4,6 +4,7 @@ pub mod Conversions
 pub mod Operators
 pub mod Marks
 pub mod Fields
+pub mod Imported
 pub mod Variables
 pub mod Calls
 pub mod Typed

@@ -1,6 +1,7 @@
 -- The types of operators, casts and assignments by those of their operands, with their diagnostics (JLS 15.14 to 15.26).
 use Rattle.std.specs.Prelude.{ℕ, ◌-◌, ◌==◌, ◌&&◌, ◌||◌, not, nat_lt, Bool, false, cond, List, [], ◌∷◌, ◌++◌, Option, None, Some, slice_index_or, codes, is_some}
 use Rattle.sg_reading.specs.Reading.{done, and_then}
+use Rattle.jv_diag.specs.declared.codes.TheConstants.{FINAL_VARIABLE, NO_CAST, NO_VARIABLE, OPERANDS, OTHER_TYPE}
 use Rattle.jv_diag.specs.Plain.{DiagOf}
 use Rattle.jv_instance.specs.declared.ty.Ty.{Ty}
 use Rattle.jv_instance.specs.declared.type_base.TypeBase.TheVariants.{Int}
@@ -45,7 +46,7 @@ both_texts site s t = (type_text site s ++ codes " and ") ++ type_text site t
 
 -- a type that is found where another one is needed does not fit
 abbrev pub with_misfit : Bool → SiteOf → ℕ → Ty → Ty → List DiagOf → List DiagOf
-with_misfit ok site at found needed ds = with_fault_if (not ok) site at 45 (type_text site found ∷ type_text site needed ∷ []) ds
+with_misfit ok site at found needed ds = with_fault_if (not ok) site at OTHER_TYPE (type_text site found ∷ type_text site needed ∷ []) ds
 
 -- a value at an offset is assigned to a variable of a type
 unfoldable pub assigned_to : SiteOf → ℕ → Ty → Ty → List DiagOf → Rule (List DiagOf)
@@ -71,7 +72,7 @@ with_size site at t ds = with_misfit (is_bad t || is_index t) site at t (plain I
 
 -- the operand of an operator at an offset has no type that it takes
 abbrev pub with_refused : SiteOf → ℕ → ℕ → List ℕ → List DiagOf → List DiagOf
-with_refused site at op operands ds = with_fault site at 46 (operator_text op ∷ operands ∷ []) ds
+with_refused site at op operands ds = with_fault site at OPERANDS (operator_text op ∷ operands ∷ []) ds
 
 -- the type that was found, and else a bad one with a diagnostic
 abbrev pub or_refused : Option Ty → SiteOf → ℕ → ℕ → List ℕ → List DiagOf → Ty × List DiagOf
@@ -85,11 +86,11 @@ signed site at op t ds = or_refused (unary_type op t) site at op (type_text site
 -- a variable that cannot be assigned
 abbrev pub with_sealed : SiteOf → ℕ → Option NameId → List DiagOf → List DiagOf
 with_sealed site at None ds = ds
-with_sealed site at (Some n) ds = with_fault site at 56 (text_of site.names n.0 ∷ []) ds
+with_sealed site at (Some n) ds = with_fault site at FINAL_VARIABLE (text_of site.names n.0 ∷ []) ds
 
 -- what is assigned is no variable, or one that cannot be assigned; where its type is bad neither is said
 abbrev pub with_target : SiteOf → ℕ → Bool → Value → List DiagOf → List DiagOf
-with_target site at variable v ds = cond (is_bad v.ty) ds (cond variable (with_sealed site at v.sealed ds) (with_fault site at 50 [] ds))
+with_target site at variable v ds = cond (is_bad v.ty) ds (cond variable (with_sealed site at v.sealed ds) (with_fault site at NO_VARIABLE [] ds))
 
 -- it is assigned with nothing wrong
 abbrev pub is_open : Bool → Value → Bool
@@ -124,7 +125,7 @@ operator_type site op p = binary_type op p.0 p.1 (string_scope site.layout) (obj
 
 -- a type that cannot be cast to another one, at an offset
 abbrev pub with_cast : Bool → SiteOf → ℕ → Ty → Ty → List DiagOf → List DiagOf
-with_cast ok site at s t ds = with_fault_if (not ok) site at 55 (type_text site s ∷ type_text site t ∷ []) ds
+with_cast ok site at s t ds = with_fault_if (not ok) site at NO_CAST (type_text site s ∷ type_text site t ∷ []) ds
 
 -- one of two types may be cast to the other, or one is bad
 abbrev pub may_cast : SiteOf → Sides → Bool

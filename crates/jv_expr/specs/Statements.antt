@@ -1,6 +1,7 @@
 -- The diagnostics of statements, and the local variables that they declare (JLS 14).
 use Rattle.std.specs.Prelude.{ℕ, ◌&&◌, Bool, true, false, List, [], ◌∷◌, ◌++◌, length, take, Option, None, Some, is_some}
 use Rattle.sg_reading.specs.Reading.{done, and_then}
+use Rattle.jv_diag.specs.declared.codes.TheConstants.{DUPLICATE_VARIABLE, NO_LOOP, WRONG_RETURN}
 use Rattle.jv_diag.specs.Plain.{DiagOf}
 use Rattle.jv_instance.specs.declared.ty.Ty.{Ty}
 use Rattle.jv_tree.specs.declared.name.Ident.{Ident}
@@ -40,19 +41,19 @@ optional_condition site vs (Some x) ds = condition_checked site vs x ds
 
 -- a value that is returned at an offset (JLS 14.17)
 abbrev pub value_returned : SiteOf → ℕ → Option Ty → ℕ → Ty → List DiagOf → Rule (List DiagOf)
-value_returned site at None place t ds = done (with_fault site at 53 [] ds)
+value_returned site at None place t ds = done (with_fault site at WRONG_RETURN [] ds)
 value_returned site at (Some r) place t ds = assigned_to site place t r ds
 
 -- a `return` at an offset, with a value or without one; without one, none may be needed there (JLS 14.17)
 abbrev pub returned : SiteOf → ℕ → List Local → Option ExprTree → List DiagOf → Rule (List DiagOf)
-returned site at vs None ds = done (with_fault_if (is_some site.result) site at 53 [] ds)
+returned site at vs None ds = done (with_fault_if (is_some site.result) site at WRONG_RETURN [] ds)
 returned site at vs (Some x) ds = and_then (typed site vs x ds) (λ v. value_returned site at site.result (start x) v.0.ty v.1)
 
 -- ---- local variables (JLS 14.4)
 
 -- with a variable of a name and a type more; one of the name that is in scope already is said
 abbrev pub declared : SiteOf → Ident → Ty → Bool → List Local → List DiagOf → Scoped
-declared site i t sealed vs ds = (vs ++ record { name = i.id; ty = t; sealed = sealed } ∷ [], with_named_if (is_some (latest vs i.id None)) site i 39 ds)
+declared site i t sealed vs ds = (vs ++ record { name = i.id; ty = t; sealed = sealed } ∷ [], with_named_if (is_some (latest vs i.id None)) site i DUPLICATE_VARIABLE ds)
 
 -- an initializer of a variable of this type, which may be left out
 abbrev pub optional_init : SiteOf → List Local → Ty → Option InitTree → List DiagOf → Rule (List DiagOf)
@@ -79,7 +80,7 @@ local_checked site is_final t xs vs ds = and_then (written_at site t ds) (λ w. 
 -- a statement outside a loop that asks for one (JLS 14.15, 14.16)
 abbrev pub in_loop : SiteOf → ℕ → Bool → List DiagOf → List DiagOf
 in_loop site at true ds = ds
-in_loop site at false ds = with_fault site at 52 [] ds
+in_loop site at false ds = with_fault site at NO_LOOP [] ds
 
 -- the local variables as they were before
 abbrev pub left : List Local → Rule Scoped → Rule Scoped

@@ -1,6 +1,7 @@
 -- The value that each expression is, and its diagnostics (JLS 15).
 use Rattle.std.specs.Prelude.{ℕ, ◌+◌, ◌==◌, ◌&&◌, ◌||◌, not, nat_le, nat_lt, Bool, true, false, cond, List, [], ◌∷◌, ◌++◌, Option, None, Some, codes}
 use Rattle.sg_reading.specs.Reading.{done, and_then}
+use Rattle.jv_diag.specs.declared.codes.TheConstants.{NO_INSTANCE, OTHER_TYPE}
 use Rattle.jv_diag.specs.Plain.{DiagOf}
 use Rattle.jv_instance.specs.declared.ty.Ty.{Ty}
 use Rattle.jv_instance.specs.declared.type_base.TypeBase.TheVariants.{Boolean, Char, Int, Long, Class, Null}
@@ -127,7 +128,7 @@ as_value r = and_then r (λ t. done (value t.0, t.1))
 
 -- `this` stands where there is an instance of the innermost body (JLS 15.8.3)
 abbrev pub this_value : SiteOf → ℕ → List DiagOf → Value × List DiagOf
-this_value site at ds = cond (has_this site) (value (plain (Class site.class)), ds) (bad_value, with_fault site at 48 (codes "this" ∷ []) ds)
+this_value site at ds = cond (has_this site) (value (plain (Class site.class)), ds) (bad_value, with_fault site at NO_INSTANCE (codes "this" ∷ []) ds)
 
 -- the class `String`; where the layout has none, a bad type
 abbrev pub string_type : SiteOf → Ty
@@ -162,7 +163,7 @@ element_needed t = cond (nat_lt 0 t.dims && not (is_bad t)) (element 1 t) bad_ty
 
 -- a list stands where no array is needed
 abbrev pub with_list : SiteOf → ℕ → Ty → List DiagOf → List DiagOf
-with_list site at t ds = cond (is_bad t || nat_lt 0 t.dims) ds (with_fault site at 45 (codes "list" ∷ type_text site t ∷ []) ds)
+with_list site at t ds = cond (is_bad t || nat_lt 0 t.dims) ds (with_fault site at OTHER_TYPE (codes "list" ∷ type_text site t ∷ []) ds)
 
 abbrev mutual
   -- the value of an expression among the local variables in scope, behind the diagnostics so far

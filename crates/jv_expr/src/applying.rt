@@ -2,6 +2,7 @@
 
 ghost use Rattle.std.specs.Prelude.{◌≡◌, [], ◌∷◌, OnOk};
 ghost use Rattle.sg_reading.specs.Stop.{Reads};
+ghost use Rattle.jv_diag.specs.declared.codes.TheConstants.{NUMBER_OF_ARGUMENTS};
 ghost use Rattle.jv_types.specs.Operators.{bad_type};
 ghost use Rattle.jv_names.specs.Replies.{reply_to};
 ghost use Rattle.jv_expr.specs.Calls.{applied, applied_by, applied_to, arguments_fit};
@@ -14,7 +15,7 @@ use crate::conversions::check_assigned;
 use crate::faults::add_fault;
 use crate::need::Need;
 use crate::site::Site;
-use jv_diag::DiagList;
+use jv_diag::{DiagList, codes};
 use jv_instance::{Ty, TypeBase};
 use jv_names::{Oracle, ReadSignature};
 use std::alloc::{AllocError, Global};
@@ -37,9 +38,9 @@ fn add_wrong_count(
     text: &str,
     ds: &mut DiagList,
 ) -> Result<(), AllocError>
-    ensures { OnOk result (ds.new ≡ with_fault (site_of site.now) at 47 (text.now ∷ []) ds.old) }
+    ensures { OnOk result (ds.new ≡ with_fault (site_of site.now) at NUMBER_OF_ARGUMENTS (text.now ∷ []) ds.old) }
 {
-    add_fault(alloc, site, at, 47, &[text], ds)
+    add_fault(alloc, site, at, codes::NUMBER_OF_ARGUMENTS, &[text], ds)
 }
 
 /// Checks that each argument fits its parameter.

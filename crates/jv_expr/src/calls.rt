@@ -16,6 +16,7 @@ use crate::constructors::{check_new_class, check_super_ctor};
 use crate::faults::add_fault;
 use crate::fields::check_class_field;
 use crate::front::Front;
+use crate::imported_calls::check_imported_call;
 use crate::manner::Manner;
 use crate::method_calls::{add_bad_call, check_called_of, check_class_call};
 use crate::need::Need;
@@ -136,7 +137,7 @@ pub(crate) fn check_front_call(
     }
 }
 
-/// A call by a simple name of the innermost of some bodies that has a method of the name.
+/// A call by a simple name of the innermost of some bodies that has a method of the name, and else of a method that imports bring.
 #[tactic(auto, using(crate::proofs::BareSteps::bare_steps))]
 fn check_call_in(
     alloc: Global,
@@ -175,7 +176,7 @@ fn check_call_in(
             }
         }
     }
-    Ok(add_bad_call(alloc, site, i, codes::UNKNOWN_METHOD, ds)?)
+    check_imported_call(alloc, site, o, i, arguments, ds)
 }
 
 /// A call by a simple name (JLS 15.12.1).

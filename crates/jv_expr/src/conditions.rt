@@ -3,6 +3,7 @@
 ghost use Rattle.std.specs.Prelude.{◌≡◌, ◌<◌, ◌^◌, [], is_some, OnOk};
 ghost use Rattle.std.specs.Option.{option_map};
 ghost use Rattle.sg_reading.specs.Stop.{Reads};
+ghost use Rattle.jv_diag.specs.declared.codes.TheConstants.{WRONG_RETURN};
 ghost use Rattle.jv_tree.specs.ExprTree.{expr_tree, expr_trees};
 ghost use Rattle.jv_names.specs.Replies.{reply_to};
 ghost use Rattle.jv_expr.specs.Checking.{only_diags};
@@ -16,7 +17,7 @@ use crate::faults::{add_condition, add_fault};
 use crate::local::Local;
 use crate::need::Need;
 use crate::site::Site;
-use jv_diag::DiagList;
+use jv_diag::{DiagList, codes};
 use jv_instance::Ty;
 use jv_names::Oracle;
 use jv_tree::Expr;
@@ -112,7 +113,7 @@ fn check_value_returned(
 {
     match needed {
         None => {
-            add_fault(alloc, site, at, 53, &[], ds)?;
+            add_fault(alloc, site, at, codes::WRONG_RETURN, &[], ds)?;
             Ok(())
         }
         Some(needed) => check_assigned(alloc, site, o, place, found, needed, ds),
@@ -126,10 +127,10 @@ fn add_nothing_returned(
     at: u32,
     ds: &mut DiagList,
 ) -> Result<(), AllocError>
-    ensures { OnOk result (ds.new ≡ with_fault_if (is_some (site_of site.now).result) (site_of site.now) at 53 [] ds.old) }
+    ensures { OnOk result (ds.new ≡ with_fault_if (is_some (site_of site.now).result) (site_of site.now) at WRONG_RETURN [] ds.old) }
 {
     if site.result.is_some() {
-        add_fault(alloc, site, at, 53, &[], ds)?;
+        add_fault(alloc, site, at, codes::WRONG_RETURN, &[], ds)?;
     }
     Ok(())
 }

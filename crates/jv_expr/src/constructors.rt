@@ -15,7 +15,7 @@ use crate::argument::Argument;
 use crate::faults::add_fault;
 use crate::need::Need;
 use crate::site::Site;
-use jv_diag::DiagList;
+use jv_diag::{DiagList, codes};
 use jv_instance::{Ty, TypeBase};
 use jv_layout::text_of;
 use jv_names::{
@@ -66,7 +66,14 @@ fn add_enclosing(
 {
     if !enclosed {
         let title = site.layout.title(alloc, site.names, class)?;
-        add_fault(alloc, site, at, 57, &[title.as_str()], ds)?;
+        add_fault(
+            alloc,
+            site,
+            at,
+            codes::NO_ENCLOSING_INSTANCE,
+            &[title.as_str()],
+            ds,
+        )?;
     }
     Ok(())
 }
@@ -92,7 +99,7 @@ fn check_ctor_called(
         Some(member) => {
             let ok = read_accessible(site.layout, o, site.spot, member, through)?;
             let signature = read_signature_of(alloc, site.layout, o, member)?;
-            add_class_fault_if(alloc, !ok, site, at, 44, class, ds)?;
+            add_class_fault_if(alloc, !ok, site, at, codes::INACCESSIBLE_MEMBER, class, ds)?;
             let text = class_text(site, class);
             let found = check_applied(alloc, site, o, at, text, arguments, &signature, ds)?;
             Ok(ok && found.is_some())
@@ -155,7 +162,7 @@ pub(crate) fn check_new_class(
     ensures { Reads (reply_to o.now) (new_class (site_of site.now) class at arguments.now ds.old) (with_diags result ds.new) }
 {
     let unmade = is_abstract_class(site, class);
-    add_class_fault_if(alloc, unmade, site, at, 49, class, ds)?;
+    add_class_fault_if(alloc, unmade, site, at, codes::ABSTRACT, class, ds)?;
     let called = check_ctor_call(alloc, site, o, Some(class), class, at, arguments, ds)?;
     let enclosed = read_has_enclosing(site.layout, o, site.instances, class)?;
     add_enclosing(alloc, enclosed, site, at, class, ds)?;

@@ -19,7 +19,7 @@ use crate::local::Local;
 use crate::need::Need;
 use crate::site::Site;
 use crate::variables::latest;
-use jv_diag::DiagList;
+use jv_diag::{DiagList, codes};
 use jv_instance::Ty;
 use jv_names::{Oracle, read_written_type};
 use jv_tree::{Ident, Init, TypeRef, Var};
@@ -41,7 +41,7 @@ pub(crate) fn declare(
     ensures grows { AddsLocals locals.old.items locals.new.items }
 {
     let known = latest(locals.as_slice(), i.id).is_some();
-    add_named_if(alloc, known, site, i, 39, ds)?;
+    add_named_if(alloc, known, site, i, codes::DUPLICATE_VARIABLE, ds)?;
     locals.push(Local {
         name: i.id,
         ty,

@@ -2,6 +2,7 @@
 
 ghost use Rattle.std.specs.Prelude.{◌≡◌, [], ◌∷◌, ◌<◌, ◌^◌, OnOk, Some, drop, false, not, take};
 ghost use Rattle.sg_reading.specs.Stop.{Reads};
+ghost use Rattle.jv_diag.specs.declared.codes.TheConstants.{INACCESSIBLE_TYPE};
 ghost use Rattle.jv_diag.specs.Text.{takes};
 ghost use Rattle.jv_names.specs.Replies.{reply_to};
 ghost use Rattle.jv_names.specs.Written.{start_of, written};
@@ -18,8 +19,8 @@ use crate::found_field::FoundField;
 use crate::local::Local;
 use crate::need::Need;
 use crate::site::Site;
-use crate::variables::{check_outward, latest, local_value, read_field_outward};
-use jv_diag::DiagList;
+use crate::variables::{check_outward, latest, local_value, read_field_around};
+use jv_diag::{DiagList, codes};
 use jv_instance::Ty;
 use jv_names::{
     Meaning, Oracle, member_type, package_type, read_field, read_type_accessible, simple_type,
@@ -54,11 +55,18 @@ fn add_refused_type(
     t: Scope,
     ds: &mut DiagList,
 ) -> Result<(), AllocError>
-    ensures { OnOk result (ds.new ≡ with_fault_if (not ok) (site_of site.now) (start_of front.now) 22 (title (site_of site.now) t ∷ []) ds.old) }
+    ensures { OnOk result (ds.new ≡ with_fault_if (not ok) (site_of site.now) (start_of front.now) INACCESSIBLE_TYPE (title (site_of site.now) t ∷ []) ds.old) }
 {
     if !ok {
         let text = site.layout.title(alloc, site.names, t)?;
-        add_fault(alloc, site, start_of(front), 22, &[text.as_str()], ds)?;
+        add_fault(
+            alloc,
+            site,
+            start_of(front),
+            codes::INACCESSIBLE_TYPE,
+            &[text.as_str()],
+            ds,
+        )?;
     }
     Ok(())
 }
@@ -93,7 +101,14 @@ fn check_several_part(
 ) -> Result<Denoted, Need>
     ensures { Reads (reply_to o.now) (several_part (site_of site.now) front.now ds.old) (with_diags result ds.new) }
 {
-    add_written(alloc, site, start_of(front), front, 21, ds)?;
+    add_written(
+        alloc,
+        site,
+        start_of(front),
+        front,
+        codes::AMBIGUOUS_TYPE,
+        ds,
+    )?;
     Ok(Denoted::Nothing)
 }
 
@@ -108,7 +123,7 @@ fn check_lost_front(
 ) -> Result<Denoted, Need>
     ensures { Reads (reply_to o.now) (lost_front (site_of site.now) front.now ds.old) (with_diags result ds.new) }
 {
-    add_written(alloc, site, start_of(front), front, 40, ds)?;
+    add_written(alloc, site, start_of(front), front, codes::UNKNOWN_NAME, ds)?;
     Ok(Denoted::Nothing)
 }
 
@@ -123,7 +138,7 @@ fn check_many_part(
 ) -> Result<Denoted, Need>
     ensures { Reads (reply_to o.now) (many_part (site_of site.now) i ds.old) (with_diags result ds.new) }
 {
-    add_named(alloc, site, i, 41, ds)?;
+    add_named(alloc, site, i, codes::TOO_MANY_PATHS, ds)?;
     Ok(Denoted::Nothing)
 }
 
@@ -138,7 +153,7 @@ fn check_lost_part(
 ) -> Result<Denoted, Need>
     ensures { Reads (reply_to o.now) (lost_part (site_of site.now) i ds.old) (with_diags result ds.new) }
 {
-    add_named(alloc, site, i, 40, ds)?;
+    add_named(alloc, site, i, codes::UNKNOWN_NAME, ds)?;
     Ok(Denoted::Nothing)
 }
 
@@ -189,7 +204,7 @@ fn check_type_meant(
     }
 }
 
-/// A field that was found in the bodies outward, as a variable.
+/// A field that was found around a place, as a variable.
 #[tactic(auto, using(crate::proofs::NamingSteps::naming_steps))]
 fn check_outward_variable(
     alloc: Global,
@@ -206,7 +221,7 @@ fn check_outward_variable(
     Ok(Denoted::Variable(v))
 }
 
-/// The first part, where it is no local variable: a field of the bodies around, and else a type, and else a package.
+/// The first part, where it is no local variable: a field around, and else a type, and else a package.
 #[tactic(auto, using(crate::proofs::NamingSteps::naming_steps))]
 fn check_head_found(
     alloc: Global,
@@ -223,6 +238,9 @@ fn check_head_found(
         FoundField::In(body, field) => {
             check_outward_variable(alloc, site, o, i, FoundField::In(body, field), ds)
         }
+        FoundField::Imported(field) => {
+            check_outward_variable(alloc, site, o, i, FoundField::Imported(field), ds)
+        }
         FoundField::Several => {
             check_outward_variable(alloc, site, o, i, FoundField::Several, ds)
         }
@@ -230,7 +248,7 @@ fn check_head_found(
             check_outward_variable(alloc, site, o, i, FoundField::TooMany, ds)
         }
         FoundField::Nowhere => {
-            let m = simple_type(site.layout, o, site.spot, i.id)?;
+            let m = simple_type(alloc, site.layout, o, site.spot, i.id)?;
             check_type_meant(alloc, site, o, site.layout.root(), &[i], i, m, ds)
         }
     }
@@ -252,7 +270,7 @@ fn check_or_head(
     match local {
         Some(v) => Ok(Denoted::Variable(local_value(v))),
         None => {
-            let found = read_field_outward(site.layout, o, site.spot.inside.as_slice(), i.id)?;
+            let found = read_field_around(alloc, site, o, i.id)?;
             check_head_found(alloc, site, o, i, found, ds)
         }
     }
@@ -352,8 +370,8 @@ fn check_static_meant(
             let k = member_type(site.layout, o, t, i.id)?;
             check_member_meant(alloc, site, o, front, i, k, ds)
         }
-        Meaning::Ambiguous => check_bad_variable(alloc, site, o, i, 43, ds),
-        Meaning::TooMany => check_bad_variable(alloc, site, o, i, 41, ds),
+        Meaning::Ambiguous => check_bad_variable(alloc, site, o, i, codes::AMBIGUOUS_NAME, ds),
+        Meaning::TooMany => check_bad_variable(alloc, site, o, i, codes::TOO_MANY_PATHS, ds),
     }
 }
 

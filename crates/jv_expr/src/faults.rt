@@ -8,7 +8,7 @@ ghost use Rattle.jv_expr.specs.Site.{with_fault, with_named, with_named_if, type
 ghost use Rattle.jv_expr.specs.Sites.{site_of};
 
 use crate::site::Site;
-use jv_diag::DiagList;
+use jv_diag::{DiagList, codes};
 use jv_instance::{Ty, TypeBase};
 use jv_layout::text_of;
 use jv_tree::Ident;
@@ -102,7 +102,14 @@ pub(crate) fn add_misfit(
     if !ok {
         let has = site.layout.type_text(alloc, site.names, found)?;
         let needs = site.layout.type_text(alloc, site.names, needed)?;
-        add_fault(alloc, site, at, 45, &[has.as_str(), needs.as_str()], ds)?;
+        add_fault(
+            alloc,
+            site,
+            at,
+            codes::OTHER_TYPE,
+            &[has.as_str(), needs.as_str()],
+            ds,
+        )?;
     }
     Ok(())
 }

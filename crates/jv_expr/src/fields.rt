@@ -15,7 +15,7 @@ use crate::faults::{add_named, add_named_if};
 use crate::need::Need;
 use crate::site::Site;
 use crate::value::Value;
-use jv_diag::DiagList;
+use jv_diag::{DiagList, codes};
 use jv_instance::{Ty, TypeBase};
 use jv_layout::text_of;
 use jv_names::{Meaning, Oracle, ReadSignature, read_accessible, read_field, read_signature_of};
@@ -101,8 +101,8 @@ fn add_access(
 ) -> Result<(), AllocError>
     ensures { OnOk result (ds.new ≡ with_access (site_of site.now) ok lacks i ds.old) }
 {
-    add_named_if(alloc, !ok, site, i, 44, ds)?;
-    add_named_if(alloc, lacks, site, i, 48, ds)
+    add_named_if(alloc, !ok, site, i, codes::INACCESSIBLE_MEMBER, ds)?;
+    add_named_if(alloc, lacks, site, i, codes::NO_INSTANCE, ds)
 }
 
 /// A bad value, with a diagnostic at the identifier.
@@ -188,9 +188,9 @@ fn check_field_meant(
         Meaning::One(field) => {
             check_field_found(alloc, site, o, through, free, own, i, field, ds)
         }
-        Meaning::Nothing => check_bad_named(alloc, site, o, i, 40, ds),
-        Meaning::Ambiguous => check_bad_named(alloc, site, o, i, 43, ds),
-        Meaning::TooMany => check_bad_named(alloc, site, o, i, 41, ds),
+        Meaning::Nothing => check_bad_named(alloc, site, o, i, codes::UNKNOWN_NAME, ds),
+        Meaning::Ambiguous => check_bad_named(alloc, site, o, i, codes::AMBIGUOUS_NAME, ds),
+        Meaning::TooMany => check_bad_named(alloc, site, o, i, codes::TOO_MANY_PATHS, ds),
     }
 }
 
@@ -233,7 +233,7 @@ fn check_array_field(
             sealed: Some(i.id),
         })
     } else {
-        check_bad_named(alloc, site, o, i, 40, ds)
+        check_bad_named(alloc, site, o, i, codes::UNKNOWN_NAME, ds)
     }
 }
 
@@ -256,7 +256,7 @@ fn check_base_field(
             check_class_field(alloc, site, o, Some(class), own, class, i, ds)
         }
         TypeBase::Bad => Ok(bad_value()),
-        _ => check_bad_named(alloc, site, o, i, 40, ds),
+        _ => check_bad_named(alloc, site, o, i, codes::UNKNOWN_NAME, ds),
     }
 }
 

@@ -108,7 +108,7 @@ fn call_type(faulty: bool, found: Option<Ty>) -> Ty
 
 /// A method is called at an identifier.
 #[tactic(auto, using(crate::proofs::CallSteps::call_steps), unfolding(crate::specs::Calls::method_called))]
-fn check_method_called(
+pub(crate) fn check_method_called(
     alloc: Global,
     site: &Site<'_>,
     o: &Oracle,

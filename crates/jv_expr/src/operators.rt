@@ -16,7 +16,7 @@ use crate::sides::{Pair, bare_sides, read_sides};
 use crate::site::Site;
 use crate::texts::{both_texts, choice_text, operator_text};
 use crate::value::Value;
-use jv_diag::DiagList;
+use jv_diag::{DiagList, codes};
 use jv_instance::Ty;
 use jv_layout::text_of;
 use jv_names::Oracle;
@@ -54,7 +54,7 @@ fn add_refused(
         alloc,
         site,
         at,
-        46,
+        codes::OPERANDS,
         &[operator.as_str(), operands.as_str()],
         ds,
     )
@@ -120,7 +120,14 @@ fn add_sealed(
     ensures { OnOk result (ds.new ≡ with_sealed (site_of site.now) at sealed ds.old) }
 {
     match sealed {
-        Some(name) => add_fault(alloc, site, at, 56, &[text_of(site.names, name)], ds),
+        Some(name) => add_fault(
+            alloc,
+            site,
+            at,
+            codes::FINAL_VARIABLE,
+            &[text_of(site.names, name)],
+            ds,
+        ),
         None => Ok(()),
     }
 }
@@ -140,7 +147,7 @@ fn add_target(
         return Ok(());
     }
     if !variable {
-        return add_fault(alloc, site, at, 50, &[], ds);
+        return add_fault(alloc, site, at, codes::NO_VARIABLE, &[], ds);
     }
     add_sealed(alloc, site, at, v.sealed, ds)
 }
@@ -229,7 +236,14 @@ fn add_cast(
     if !ok {
         let one = site.layout.type_text(alloc, site.names, from)?;
         let other = site.layout.type_text(alloc, site.names, to)?;
-        add_fault(alloc, site, at, 55, &[one.as_str(), other.as_str()], ds)?;
+        add_fault(
+            alloc,
+            site,
+            at,
+            codes::NO_CAST,
+            &[one.as_str(), other.as_str()],
+            ds,
+        )?;
     }
     Ok(())
 }

@@ -19,7 +19,7 @@ use crate::faults::add_fault;
 use crate::local::Local;
 use crate::need::Need;
 use crate::site::Site;
-use jv_diag::DiagList;
+use jv_diag::{DiagList, codes};
 use jv_names::Oracle;
 use jv_tree::{Expr, Stmt, StmtKind};
 use sg_reading::Stop;
@@ -36,7 +36,7 @@ fn add_in_loop(
     ensures { OnOk result (ds.new ≡ in_loop (site_of site.now) at within ds.old) }
 {
     if !within {
-        add_fault(alloc, site, at, 52, &[], ds)?;
+        add_fault(alloc, site, at, codes::NO_LOOP, &[], ds)?;
     }
     Ok(())
 }

@@ -16,7 +16,7 @@ use crate::fields::is_among;
 use crate::need::Need;
 use crate::site::Site;
 use crate::value::Value;
-use jv_diag::DiagList;
+use jv_diag::{DiagList, codes};
 use jv_instance::{Ty, TypeBase};
 use jv_layout::Place;
 use jv_names::{Oracle, Reference, add_reference, read_reference, read_written_type};
@@ -67,7 +67,7 @@ pub(crate) fn this_value(
     if is_among(site.instances, site.class) {
         return Ok(literal(TypeBase::Class(site.class)));
     }
-    add_fault(alloc, site, at, 48, &["this"], ds)?;
+    add_fault(alloc, site, at, codes::NO_INSTANCE, &["this"], ds)?;
     Ok(literal(TypeBase::Bad))
 }
 
@@ -168,7 +168,14 @@ pub(crate) fn add_list(
 {
     if !ty.is_bad() && ty.dims == 0 {
         let needed = site.layout.type_text(alloc, site.names, ty)?;
-        add_fault(alloc, site, at, 45, &["list", needed.as_str()], ds)?;
+        add_fault(
+            alloc,
+            site,
+            at,
+            codes::OTHER_TYPE,
+            &["list", needed.as_str()],
+            ds,
+        )?;
     }
     Ok(())
 }

@@ -6,7 +6,7 @@ ghost use Rattle.sg_reading.specs.Stop.{Reads};
 ghost use Rattle.jv_names.specs.Replies.{reply_to};
 ghost use Rattle.jv_expr.specs.Checking.{with_diags};
 ghost use Rattle.jv_expr.specs.Sites.{site_of};
-ghost use Rattle.jv_expr.specs.Variables.{ended_front, ended_value, field_outward, last_of, latest, local_value, long_name_value, name_front, name_front_of, name_value, or_field, outward_value, simple_name};
+ghost use Rattle.jv_expr.specs.Variables.{ended_front, ended_value, field_around, field_outward, last_of, latest, local_value, long_name_value, name_front, name_front_of, name_value, or_field, or_imported, outward_value, simple_name};
 
 use crate::denoted::Denoted;
 use crate::denoting::{add_written, check_denoted};
@@ -14,11 +14,12 @@ use crate::faults::add_named;
 use crate::fields::{bad_value, check_bad_named, check_field_found, is_among};
 use crate::found_field::FoundField;
 use crate::front::Front;
+use crate::imported_fields::read_imported_field;
 use crate::local::Local;
 use crate::need::Need;
 use crate::site::Site;
 use crate::value::Value;
-use jv_diag::DiagList;
+use jv_diag::{DiagList, codes};
 use jv_layout::Layout;
 use jv_names::{Meaning, Oracle, read_field};
 use jv_tree::{Ident, NameId};
@@ -71,7 +72,45 @@ pub(crate) fn read_field_outward(
     Ok(FoundField::Nowhere)
 }
 
-/// A field that was found in the bodies outward, as a value.
+/// Where no body has a field of the name, the static field that imports of a file bring.
+#[tactic(auto, using(crate::proofs::NamingSteps::naming_steps))]
+fn read_or_imported(
+    alloc: Global,
+    l: &Layout,
+    o: &Oracle,
+    file: u32,
+    name: NameId,
+    found: FoundField,
+) -> Result<FoundField, Need>
+    requires { file < 2 ^ 31 }
+    ensures { Reads (reply_to o.now) (or_imported l.now file name found) result }
+{
+    match found {
+        FoundField::In(body, field) => Ok(FoundField::In(body, field)),
+        FoundField::Imported(field) => Ok(FoundField::Imported(field)),
+        FoundField::Several => Ok(FoundField::Several),
+        FoundField::TooMany => Ok(FoundField::TooMany),
+        FoundField::Nowhere => read_imported_field(alloc, l, o, file, name),
+    }
+}
+
+/// The field of a name around a place: of the bodies outward, and else one that the file's static imports bring (JLS 6.4.1). It
+/// takes the time of the ends that its answers give, and looks at each static import of the file.
+#[tactic(auto, using(crate::proofs::NamingSteps::naming_steps), unfolding(crate::specs::Variables::field_around))]
+pub(crate) fn read_field_around(
+    alloc: Global,
+    site: &Site<'_>,
+    o: &Oracle,
+    name: NameId,
+) -> Result<FoundField, Need>
+    requires { site.now.spot.now.file < 2 ^ 31 }
+    ensures { Reads (reply_to o.now) (field_around (site_of site.now) name) result }
+{
+    let found = read_field_outward(site.layout, o, site.spot.inside.as_slice(), name)?;
+    read_or_imported(alloc, site.layout, o, site.spot.file, name, found)
+}
+
+/// A field that was found around a place, as a value.
 #[tactic(auto, using(crate::proofs::NamingSteps::naming_steps))]
 pub(crate) fn check_outward(
     alloc: Global,
@@ -89,13 +128,16 @@ pub(crate) fn check_outward(
             let free = is_among(site.instances, body);
             check_field_found(alloc, site, o, None, free, true, i, field, ds)
         }
-        FoundField::Several => check_bad_named(alloc, site, o, i, 43, ds),
-        FoundField::TooMany => check_bad_named(alloc, site, o, i, 41, ds),
-        FoundField::Nowhere => check_bad_named(alloc, site, o, i, 40, ds),
+        FoundField::Imported(field) => {
+            check_field_found(alloc, site, o, None, true, false, i, field, ds)
+        }
+        FoundField::Several => check_bad_named(alloc, site, o, i, codes::AMBIGUOUS_NAME, ds),
+        FoundField::TooMany => check_bad_named(alloc, site, o, i, codes::TOO_MANY_PATHS, ds),
+        FoundField::Nowhere => check_bad_named(alloc, site, o, i, codes::UNKNOWN_NAME, ds),
     }
 }
 
-/// A local variable, or else a field of the bodies around.
+/// A local variable, or else a field around.
 #[tactic(auto, using(crate::proofs::NamingSteps::naming_steps))]
 fn check_or_field(
     alloc: Global,
@@ -111,13 +153,13 @@ fn check_or_field(
     match local {
         Some(v) => Ok(local_value(v)),
         None => {
-            let found = read_field_outward(site.layout, o, site.spot.inside.as_slice(), i.id)?;
+            let found = read_field_around(alloc, site, o, i.id)?;
             check_outward(alloc, site, o, i, found, ds)
         }
     }
 }
 
-/// A simple name: the innermost local variable, or else a field of the bodies around (JLS 6.5.6.1).
+/// A simple name: the innermost local variable, or else a field around (JLS 6.5.6.1).
 #[tactic(auto, using(crate::proofs::NamingSteps::naming_steps), unfolding(crate::specs::Variables::simple_name))]
 pub(crate) fn check_simple_name(
     alloc: Global,
@@ -162,15 +204,15 @@ fn check_ended_value(
     match ended {
         Denoted::Variable(v) => Ok(v),
         Denoted::TypeName(_, true) => {
-            add_named(alloc, site, last_of(first, rest), 40, ds)?;
+            add_named(alloc, site, last_of(first, rest), codes::UNKNOWN_NAME, ds)?;
             Ok(bad_value())
         }
         Denoted::TypeName(_, false) => {
-            add_written(alloc, site, first.at, ids, 40, ds)?;
+            add_written(alloc, site, first.at, ids, codes::UNKNOWN_NAME, ds)?;
             Ok(bad_value())
         }
         Denoted::Package(_) => {
-            add_written(alloc, site, first.at, ids, 40, ds)?;
+            add_written(alloc, site, first.at, ids, codes::UNKNOWN_NAME, ds)?;
             Ok(bad_value())
         }
         Denoted::Nothing => Ok(bad_value()),
@@ -238,7 +280,7 @@ fn check_ended_front(
         Denoted::Variable(v) => Ok(Front::Value(v)),
         Denoted::TypeName(t, _) => Ok(Front::TypeName(t)),
         Denoted::Package(_) => {
-            add_written(alloc, site, first.at, ids, 40, ds)?;
+            add_written(alloc, site, first.at, ids, codes::UNKNOWN_NAME, ds)?;
             Ok(Front::Value(bad_value()))
         }
         Denoted::Nothing => Ok(Front::Value(bad_value())),

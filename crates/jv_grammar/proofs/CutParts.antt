@@ -3,12 +3,12 @@ use Rattle.std.proofs.Common.{ℕ, suc, Bool, true, false, List, [], ◌∷◌, 
 use Rattle.jv_tree.specs.declared.name.Ident.{Ident as Identifier}
 use Rattle.jv_tree.specs.DeclTree.{ParamTree, ImportTree}
 use Rattle.jv_grammar.specs.declared.terminal.Terminal.{Terminal}
-use Rattle.jv_grammar.specs.Marks.{paren_open, paren_close, semicolon, comma, dot, star, word_extends, word_final, word_import, word_package}
+use Rattle.jv_grammar.specs.Marks.{paren_open, paren_close, semicolon, comma, dot, star, word_extends, word_final, word_import, word_package, word_static}
 use Rattle.jv_grammar.specs.TypeGrammar.{starts, starts_word}
 use Rattle.jv_grammar.specs.Reader.{Reads, ◌>>=◌, rest_of, closed}
 use Rattle.jv_grammar.specs.TypeReader.{name_of}
-use Rattle.jv_grammar.specs.DeclReader.{names_of, parent_of, headed_of, named_of, param_of, some_params_of, params_of, package_of, path_of, import_of, imports_of}
-use Rattle.jv_grammar.proofs.CutBoth.{CutBoth, cut_then, cut_done, cut_none, cut_map, cut_turn, cut_next, cut_if, cut_mark}
+use Rattle.jv_grammar.specs.DeclReader.{names_of, parent_of, headed_of, named_of, param_of, some_params_of, params_of, package_of, path_of, stands_alone, listed_of, import_of, imports_of}
+use Rattle.jv_grammar.proofs.CutBoth.{CutBoth, cut_then, cut_done, cut_none, cut_map, cut_turn, cut_next, cut_if, cut_case, cut_mark}
 use Rattle.jv_grammar.proofs.CutTurns.{all_turns, all_long_turns, turns_of, turns_under}
 use Rattle.jv_grammar.proofs.CutTypes.{first_mark, first_word, both_name, both_ty}
 use Rattle.jv_grammar.proofs.CutHeads.{lower}
@@ -59,19 +59,23 @@ unfolding package_of
 both_package n m d = cut_if (starts_word word_package) (first_word _) (cut_next {p = packaged} {q = packaged} (cut_then _ _ (both_name n m d) (λ ids. cut_mark semicolon (Some ids)))) (cut_done None)
 
 -- what stands behind a dot of an import
-abbrev longer : Identifier → ℕ → List Terminal → Reads ImportTree
-longer i c xs = if starts star xs then Ok (record { name = i ∷ []; all = true; is_static = false }, rest_of xs) else (path_of c xs >>= λ r. Ok (record { name = i ∷ r.0.name; all = r.0.all; is_static = r.0.is_static }, r.1))
+abbrev longer : Bool → Identifier → ℕ → List Terminal → Reads ImportTree
+longer s i c xs = if starts star xs then Ok (record { name = i ∷ []; all = true; is_static = s }, rest_of xs) else (path_of s c xs >>= λ r. Ok (record { name = i ∷ r.0.name; all = r.0.all; is_static = s }, r.1))
 
-pub both_path : (d n m : ℕ) → CutBoth (suc n) (suc m) d (path_of n) (path_of m)
+pub both_path : (s : Bool) (d n m : ℕ) → CutBoth (suc n) (suc m) d (path_of s n) (path_of s m)
 unfolding path_of
-both_path d = all_turns path_of path_of (λ xs. omega arith) (λ xs. omega arith) (λ n m more.
+both_path s d = all_turns (path_of s) (path_of s) (λ xs. omega arith) (λ xs. omega arith) (λ n m more.
     cut_then _ _ (both_ident _ _ _) (λ i. cut_if (starts dot) (first_mark _)
-    (cut_turn {p = longer i n} {q = longer i m} (cut_if (starts star) (first_mark _) (cut_next (cut_done (record { name = i ∷ []; all = true; is_static = false }))) (cut_map (λ (x : ImportTree). record { name = i ∷ x.name; all = x.all; is_static = x.is_static }) more)))
-    (cut_done (record { name = i ∷ []; all = false; is_static = false }))))
+    (cut_turn {p = longer s i n} {q = longer s i m} (cut_if (starts star) (first_mark _) (cut_next (cut_done (record { name = i ∷ []; all = true; is_static = s }))) (cut_map (λ (x : ImportTree). record { name = i ∷ x.name; all = x.all; is_static = s }) more)))
+    (cut_done (record { name = i ∷ []; all = false; is_static = s }))))
+
+pub both_listed : (s : Bool) (n m d : ℕ) → CutBoth n m d (listed_of s) (listed_of s)
+unfolding listed_of
+both_listed s n m d = cut_then _ _ (turns_of (path_of s) (path_of s) (both_path s d)) (λ x. cut_case (stands_alone x) cut_none (cut_mark semicolon x))
 
 pub both_import : (n m d : ℕ) → CutBoth n m d import_of import_of
 unfolding import_of
-both_import n m d = cut_then _ _ (turns_of path_of path_of (both_path d)) (λ x. cut_mark semicolon x)
+both_import n m d = cut_if (starts_word word_static) (first_word _) (cut_next (both_listed true n m d)) (both_listed false n m d)
 
 -- an import behind its keyword, and those behind it
 abbrev more_imports : ℕ → List Terminal → Reads (List ImportTree)

@@ -1,5 +1,5 @@
 -- What derives is read: declarations and files.
-use Rattle.std.proofs.Common.{◌≡◌, ℕ, zero, suc, ◌<◌, ◌≤◌, Bool, true, false, List, [], ◌∷◌, length, arith, refl, sym, ◌∙◌, Ok, Result, None, Option, lit<, true≢false}
+use Rattle.std.proofs.Common.{◌≡◌, ℕ, zero, suc, ◌<◌, ◌≤◌, Bool, true, false, List, [], ◌∷◌, length, arith, refl, sym, ◌∙◌, Ok, Result, None, Option, lit<, true≢false, le-ltb}
 use Rattle.jv_tree.specs.declared.name.Ident.{Ident as Identifier}
 use Rattle.jv_tree.specs.TypeTree.{TypeTree}
 use Rattle.jv_tree.specs.ExprTree.{ExprTrees}
@@ -8,13 +8,13 @@ use Rattle.jv_tree.specs.DeclTree as t
 use Rattle.jv_tree.specs.DeclTree.{ParamTree, TypeDeclTree, MemberTree, MemberTrees, ImportTree, UnitTree}
 use Rattle.jv_grammar.specs.declared.terminal.Terminal.{Terminal}
 use Rattle.jv_grammar.specs.declared.terminal.Terminal.TheVariants.{Ident, Keyword, Punct}
-use Rattle.jv_grammar.specs.Marks.{paren_open, paren_close, brace_open, brace_close, bracket_open, semicolon, comma, dot, star, word_extends, word_implements, word_import, word_package}
+use Rattle.jv_grammar.specs.Marks.{paren_open, paren_close, brace_open, brace_close, bracket_open, semicolon, comma, dot, star, word_extends, word_implements, word_import, word_package, word_static}
 use Rattle.jv_grammar.specs.TypeGrammar.{starts, starts_word, DerivesName, name_one, name_more, DerivesNames, names_one, names_more, DerivesTy, DerivesResult, result_ty, result_void}
 use Rattle.jv_grammar.specs.ExprGrammar.{DerivesArgs, args_none, args_some}
 use Rattle.jv_grammar.specs.StmtGrammar.{DerivesBlock, block}
-use Rattle.jv_grammar.specs.DeclGrammar.{DerivesMods, mods_none, mods_more, DerivesParam, param_plain, param_final, DerivesSomeParams, some_params_one, some_params_more, DerivesParams, params_none, params_some, DerivesBody, body_block, body_none, DerivesCtor, ctor_plain, ctor_super, DerivesConstants, constants_one, constants_more, DerivesParent, parent_none, parent_some, DerivesParents, parents_none, parents_some, DerivesInterfaces, interfaces_none, interfaces_some, DerivesType, type_class, type_interface, DerivesClass, class, DerivesInterface, interface, DerivesMembers, members_none, members_more, members_empty, DerivesMember, member_type, member_field, member_method, member_ctor, DerivesImembers, imembers_none, imembers_more, imembers_empty, DerivesImember, imember_type, imember_field, imember_method, DerivesPackage, package_none, package_some, DerivesImport, import_one, import_all, DerivesImports, imports_none, imports_more, DerivesTypes, types_none, types_more, types_empty, Derives, file}
+use Rattle.jv_grammar.specs.DeclGrammar.{DerivesMods, mods_none, mods_more, DerivesParam, param_plain, param_final, DerivesSomeParams, some_params_one, some_params_more, DerivesParams, params_none, params_some, DerivesBody, body_block, body_none, DerivesCtor, ctor_plain, ctor_super, DerivesConstants, constants_one, constants_more, DerivesParent, parent_none, parent_some, DerivesParents, parents_none, parents_some, DerivesInterfaces, interfaces_none, interfaces_some, DerivesType, type_class, type_interface, DerivesClass, class, DerivesInterface, interface, DerivesMembers, members_none, members_more, members_empty, DerivesMember, member_type, member_field, member_method, member_ctor, DerivesImembers, imembers_none, imembers_more, imembers_empty, DerivesImember, imember_type, imember_field, imember_method, DerivesPackage, package_none, package_some, DerivesImport, import_one, import_all, import_static_one, import_static_all, DerivesImports, imports_none, imports_more, DerivesTypes, types_none, types_more, types_empty, Derives, file}
 use Rattle.jv_grammar.specs.Reader.{Reads, ◌>>=◌, starts_ident}
-use Rattle.jv_grammar.specs.DeclReader.{calls, mods_of, names_of, parent_of, headed_of, param_of, some_params_of, params_of, constants_of, fields_in, body_of, field_of, method_of, typed_of, plain_of, call_of, inner_of, ctor_of, BelowType, begins_type, behind_mods, member_of, members_of, braced_of, class_of, interface_of, decl_of, below_type, type_of, types_of, package_of, path_of, import_of, imports_of, file_of}
+use Rattle.jv_grammar.specs.DeclReader.{calls, mods_of, names_of, parent_of, headed_of, param_of, some_params_of, params_of, constants_of, fields_in, body_of, field_of, method_of, typed_of, plain_of, call_of, inner_of, ctor_of, BelowType, begins_type, behind_mods, member_of, members_of, braced_of, class_of, interface_of, decl_of, below_type, type_of, types_of, package_of, path_of, listed_of, import_of, imports_of, file_of}
 use Rattle.jv_grammar.specs.Width.{wide_ty, wide_result}
 use Rattle.jv_grammar.specs.DeclWidth.{wide_param, wide_some_params, wide_params, wide_body, wide_ctor, wide_constants, wide_type, wide_class, wide_interface, wide_members, wide_member, wide_imembers, wide_imember, wide_types, wide_file}
 use Rattle.jv_grammar.proofs.Depth.{less_name, less_init}
@@ -23,7 +23,7 @@ use Rattle.jv_grammar.proofs.Ranks.{first_rank}
 use Rattle.jv_grammar.proofs.Types.{reads_name, reads_ty}
 use Rattle.jv_grammar.proofs.Complete.{reads_init, reads_args}
 use Rattle.jv_grammar.proofs.StmtComplete.{got_vars, reads_vars, reads_block, reads_bstmts}
-use Rattle.jv_grammar.proofs.DeclStarts.{starts_mod, begins_word, word_no_mark, ident_no_mark, ty_begins, ty_no_final, ty_calls, ty_plain, result_begins, result_calls, params_open, vars_begin, constants_begin, interfaces_begin, type_word, member_word, imember_word, type_no_word, calls_super, bstmts_no_super}
+use Rattle.jv_grammar.proofs.DeclStarts.{name_no_word, starts_mod, begins_word, word_no_mark, ident_no_mark, ty_begins, ty_no_final, ty_calls, ty_plain, result_begins, result_calls, params_open, vars_begin, constants_begin, interfaces_begin, type_word, member_word, imember_word, type_no_word, calls_super, bstmts_no_super}
 
 abbrev pub got_names : List (List Identifier) → List Terminal → Reads (List (List Identifier))
 got_names ns ys = Ok (ns, ys)
@@ -318,22 +318,38 @@ name_no_star : {ids : List Identifier} {xs ys : List Terminal} → DerivesName i
 name_no_star name_one = refl
 name_no_star (name_more d) = refl
 
-pub path_one : {ids : List Identifier} {xs ys : List Terminal} → DerivesName ids xs ys → (k : ℕ) → starts dot ys ≡ false → length xs ≤ k → path_of k xs ≡ got_import (record { name = ids; all = false; is_static = false }) ys
+pub path_one : (s : Bool) {ids : List Identifier} {xs ys : List Terminal} → DerivesName ids xs ys → (k : ℕ) → starts dot ys ≡ false → length xs ≤ k → path_of s k xs ≡ got_import (record { name = ids; all = false; is_static = s }) ys
 unfolding path_of
-path_one d zero h l = absurd (omega (arith, less_name d))
-path_one name_one (suc k) h l = rw h refl
-path_one (name_more d) (suc k) h l = rw (name_no_star d) (rw (path_one d k h (omega arith)) refl)
+path_one s d zero h l = absurd (omega (arith, less_name d))
+path_one s name_one (suc k) h l = rw h refl
+path_one s (name_more d) (suc k) h l = rw (name_no_star d) (rw (path_one s d k h (omega arith)) refl)
 
-pub path_all : {ids : List Identifier} {p q : ℕ} {xs ys : List Terminal} → DerivesName ids xs (Punct p dot ∷ Punct q star ∷ ys) → (k : ℕ) → length xs ≤ k → path_of k xs ≡ got_import (record { name = ids; all = true; is_static = false }) ys
+pub path_all : (s : Bool) {ids : List Identifier} {p q : ℕ} {xs ys : List Terminal} → DerivesName ids xs (Punct p dot ∷ Punct q star ∷ ys) → (k : ℕ) → length xs ≤ k → path_of s k xs ≡ got_import (record { name = ids; all = true; is_static = s }) ys
 unfolding path_of
-path_all d zero l = absurd (omega (arith, less_name d))
-path_all name_one (suc k) l = refl
-path_all (name_more d) (suc k) l = rw (name_no_star d) (rw (path_all d k (omega arith)) refl)
+path_all s d zero l = absurd (omega (arith, less_name d))
+path_all s name_one (suc k) l = refl
+path_all s (name_more d) (suc k) l = rw (name_no_star d) (rw (path_all s d k (omega arith)) refl)
+
+-- imports behind their words
+pub listed_one : {ids : List Identifier} {q : ℕ} {xs ys : List Terminal} → DerivesName ids xs (Punct q semicolon ∷ ys) → listed_of false xs ≡ got_import (record { name = ids; all = false; is_static = false }) ys
+unfolding listed_of
+listed_one {xs} d = rw (path_one false d (length xs) refl (omega arith)) refl
+
+pub listed_static : {ids : List Identifier} {q : ℕ} {xs ys : List Terminal} → DerivesName ids xs (Punct q semicolon ∷ ys) → 1 < length ids → listed_of true xs ≡ got_import (record { name = ids; all = false; is_static = true }) ys
+unfolding listed_of
+listed_static {ids} {xs} d h = rw (path_one true d (length xs) refl (omega arith), le-ltb (length ids) 2 (omega (arith, h))) refl
+
+pub listed_all : (s : Bool) {ids : List Identifier} {p q r : ℕ} {xs ys : List Terminal} → DerivesName ids xs (Punct p dot ∷ Punct q star ∷ Punct r semicolon ∷ ys) → listed_of s xs ≡ got_import (record { name = ids; all = true; is_static = s }) ys
+unfolding listed_of
+listed_all true {xs} d = rw (path_all true d (length xs) (omega arith)) refl
+listed_all false {xs} d = rw (path_all false d (length xs) (omega arith)) refl
 
 pub import_turn : (c : ℕ) {x : ImportTree} {xs ys : List Terminal} → DerivesImport x xs ys → imports_of (suc c) xs ≡ (imports_of c ys >>= λ s. Ok (x ∷ s.0, s.1))
 unfolding imports_of import_of
-import_turn c (import_one {xs} d) = rw (path_one d (length xs) refl (omega arith)) refl
-import_turn c (import_all {xs} d) = rw (path_all d (length xs) (omega arith)) refl
+import_turn c (import_one d) = rw (name_no_word word_static d, listed_one d) refl
+import_turn c (import_all d) = rw (name_no_word word_static d, listed_all false d) refl
+import_turn c (import_static_one d h) = rw (listed_static d h) refl
+import_turn c (import_static_all d) = rw (listed_all true d) refl
 
 pub reads_imports : {is : List ImportTree} {xs ys : List Terminal} → DerivesImports is xs ys → (k : ℕ) → starts_word word_import ys ≡ false → length xs < k → imports_of k xs ≡ got_imports is ys
 unfolding imports_of
@@ -352,6 +368,8 @@ pub imports_no_package : {is : List ImportTree} {xs ys : List Terminal} → Deri
 imports_no_package imports_none h = h
 imports_no_package (imports_more (import_one d) r) h = refl
 imports_no_package (imports_more (import_all d) r) h = refl
+imports_no_package (imports_more (import_static_one d l) r) h = refl
+imports_no_package (imports_more (import_static_all d) r) h = refl
 
 pub reads_file : (n : ℕ) {xs : List Terminal} {u : UnitTree} (d : Derives xs u) → deep_file d ≤ n → wide_file d ≤ 200 → file_of n xs ≡ got_file u
 unfolding file_of

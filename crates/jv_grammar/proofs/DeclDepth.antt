@@ -5,7 +5,7 @@ use Rattle.jv_tree.specs.ExprTree.{ExprTrees}
 use Rattle.jv_tree.specs.StmtTree.{VarTree, StmtTrees}
 use Rattle.jv_tree.specs.DeclTree.{ParamTree, TypeDeclTree, MemberTree, MemberTrees, ImportTree, UnitTree}
 use Rattle.jv_grammar.specs.declared.terminal.Terminal.{Terminal}
-use Rattle.jv_grammar.specs.DeclGrammar.{DerivesMods, mods_none, mods_more, DerivesParam, param_plain, param_final, DerivesSomeParams, some_params_one, some_params_more, DerivesParams, params_none, params_some, DerivesBody, body_block, body_none, DerivesCtor, ctor_plain, ctor_super, DerivesConstants, constants_one, constants_more, DerivesParent, parent_none, parent_some, DerivesParents, parents_none, parents_some, DerivesInterfaces, interfaces_none, interfaces_some, DerivesType, type_class, type_interface, DerivesClass, class, DerivesInterface, interface, DerivesMembers, members_none, members_more, members_empty, DerivesMember, member_type, member_field, member_method, member_ctor, DerivesImembers, imembers_none, imembers_more, imembers_empty, DerivesImember, imember_type, imember_field, imember_method, DerivesPackage, package_none, package_some, DerivesImport, import_one, import_all, DerivesImports, imports_none, imports_more, DerivesTypes, types_none, types_more, types_empty, Derives, file}
+use Rattle.jv_grammar.specs.DeclGrammar.{DerivesMods, mods_none, mods_more, DerivesParam, param_plain, param_final, DerivesSomeParams, some_params_one, some_params_more, DerivesParams, params_none, params_some, DerivesBody, body_block, body_none, DerivesCtor, ctor_plain, ctor_super, DerivesConstants, constants_one, constants_more, DerivesParent, parent_none, parent_some, DerivesParents, parents_none, parents_some, DerivesInterfaces, interfaces_none, interfaces_some, DerivesType, type_class, type_interface, DerivesClass, class, DerivesInterface, interface, DerivesMembers, members_none, members_more, members_empty, DerivesMember, member_type, member_field, member_method, member_ctor, DerivesImembers, imembers_none, imembers_more, imembers_empty, DerivesImember, imember_type, imember_field, imember_method, DerivesPackage, package_none, package_some, DerivesImport, import_one, import_all, import_static_one, import_static_all, DerivesImports, imports_none, imports_more, DerivesTypes, types_none, types_more, types_empty, Derives, file}
 use Rattle.jv_grammar.proofs.Depth.{less_name, less_names, less_ty, less_result, less_args, less_init, fits_args, fits_init}
 use Rattle.jv_grammar.proofs.StmtDepth.{less_vars, less_block, less_bstmts, fits_vars, fits_block, fits_bstmts}
 pub use Rattle.jv_grammar.specs.Depth.{deep_body, deep_ctor, deep_constants, deep_type, deep_class, deep_interface, deep_members, deep_member, deep_imembers, deep_imember, deep_types, deep_file}
@@ -90,6 +90,8 @@ less_package (package_some d) = omega (arith, less_name d)
 pub less_import : {x : ImportTree} {xs ys : List Terminal} → DerivesImport x xs ys → length ys < length xs
 less_import (import_one d) = omega (arith, less_name d)
 less_import (import_all d) = omega (arith, less_name d)
+less_import (import_static_one d h) = omega (arith, less_name d)
+less_import (import_static_all d) = omega (arith, less_name d)
 
 pub less_imports : {is : List ImportTree} {xs ys : List Terminal} → DerivesImports is xs ys → length ys ≤ length xs
 less_imports imports_none = omega arith

@@ -5,7 +5,7 @@ use Rattle.jv_tree.specs.ExprTree.{ExprTrees}
 use Rattle.jv_tree.specs.StmtTree.{VarTree, StmtTrees}
 use Rattle.jv_tree.specs.DeclTree.{ParamTree, TypeDeclTree, MemberTree, MemberTrees, ImportTree, UnitTree}
 use Rattle.jv_grammar.specs.declared.terminal.Terminal.{Terminal}
-use Rattle.jv_grammar.specs.DeclGrammar.{DerivesMods, mods_none, mods_more, DerivesParam, param_plain, param_final, DerivesSomeParams, some_params_one, some_params_more, DerivesParams, params_none, params_some, DerivesBody, body_block, body_none, DerivesCtor, ctor_plain, ctor_super, DerivesConstants, constants_one, constants_more, DerivesParent, parent_none, parent_some, DerivesParents, parents_none, parents_some, DerivesInterfaces, interfaces_none, interfaces_some, DerivesType, type_class, type_interface, DerivesClass, class, DerivesInterface, interface, DerivesMembers, members_none, members_more, members_empty, DerivesMember, member_type, member_field, member_method, member_ctor, DerivesImembers, imembers_none, imembers_more, imembers_empty, DerivesImember, imember_type, imember_field, imember_method, DerivesPackage, package_none, package_some, DerivesImport, import_one, import_all, DerivesImports, imports_none, imports_more, DerivesTypes, types_none, types_more, types_empty, Derives, file}
+use Rattle.jv_grammar.specs.DeclGrammar.{DerivesMods, mods_none, mods_more, DerivesParam, param_plain, param_final, DerivesSomeParams, some_params_one, some_params_more, DerivesParams, params_none, params_some, DerivesBody, body_block, body_none, DerivesCtor, ctor_plain, ctor_super, DerivesConstants, constants_one, constants_more, DerivesParent, parent_none, parent_some, DerivesParents, parents_none, parents_some, DerivesInterfaces, interfaces_none, interfaces_some, DerivesType, type_class, type_interface, DerivesClass, class, DerivesInterface, interface, DerivesMembers, members_none, members_more, members_empty, DerivesMember, member_type, member_field, member_method, member_ctor, DerivesImembers, imembers_none, imembers_more, imembers_empty, DerivesImember, imember_type, imember_field, imember_method, DerivesPackage, package_none, package_some, DerivesImport, import_one, import_all, import_static_one, import_static_all, DerivesImports, imports_none, imports_more, DerivesTypes, types_none, types_more, types_empty, Derives, file}
 use Rattle.jv_grammar.specs.Load.{IsClosed, nothing, terminal, group, HasFewBrackets}
 use Rattle.jv_grammar.specs.DeclWidth.{wide_param, wide_some_params, wide_params, wide_body, wide_ctor, wide_constants, wide_type, wide_class, wide_interface, wide_members, wide_member, wide_imembers, wide_imember, wide_types, HasFewPairs}
 use Rattle.jv_grammar.proofs.ClosedBrackets.{closed_trans, few_behind}
@@ -92,6 +92,8 @@ closed_package (package_some d) = terminal refl refl (closed_trans (closed_name 
 pub closed_import : {x : ImportTree} {xs ys : List Terminal} → DerivesImport x xs ys → IsClosed xs ys
 closed_import (import_one d) = terminal refl refl (closed_trans (closed_name d) (terminal refl refl nothing))
 closed_import (import_all d) = terminal refl refl (closed_trans (closed_name d) (terminal refl refl (terminal refl refl (terminal refl refl nothing))))
+closed_import (import_static_one d h) = terminal refl refl (terminal refl refl (closed_trans (closed_name d) (terminal refl refl nothing)))
+closed_import (import_static_all d) = terminal refl refl (terminal refl refl (closed_trans (closed_name d) (terminal refl refl (terminal refl refl (terminal refl refl nothing)))))
 
 pub closed_imports : {is : List ImportTree} {xs ys : List Terminal} → DerivesImports is xs ys → IsClosed xs ys
 closed_imports imports_none = nothing

@@ -7,7 +7,7 @@ use Rattle.jv_tree.specs.StmtTree.{VarTree, StmtTrees}
 use Rattle.jv_tree.specs.DeclTree.{ParamTree, TypeDeclTree, MemberTree, MemberTrees, ImportTree, UnitTree}
 use Rattle.jv_grammar.specs.declared.terminal.Terminal.{Terminal}
 use Rattle.jv_grammar.specs.TypeGrammar.{DerivesName, DerivesNames, names_one, names_more, DerivesTy, DerivesResult}
-use Rattle.jv_grammar.specs.DeclGrammar.{DerivesMods, mods_none, mods_more, DerivesParam, param_plain, param_final, DerivesSomeParams, some_params_one, some_params_more, DerivesParams, params_none, params_some, DerivesBody, body_block, body_none, DerivesCtor, ctor_plain, ctor_super, DerivesConstants, constants_one, constants_more, DerivesParent, parent_none, parent_some, DerivesParents, parents_none, parents_some, DerivesInterfaces, interfaces_none, interfaces_some, DerivesType, type_class, type_interface, DerivesClass, class, DerivesInterface, interface, DerivesMembers, members_none, members_more, members_empty, DerivesMember, member_type, member_field, member_method, member_ctor, DerivesImembers, imembers_none, imembers_more, imembers_empty, DerivesImember, imember_type, imember_field, imember_method, DerivesPackage, package_none, package_some, DerivesImport, import_one, import_all, DerivesImports, imports_none, imports_more, DerivesTypes, types_none, types_more, types_empty, Derives, file}
+use Rattle.jv_grammar.specs.DeclGrammar.{DerivesMods, mods_none, mods_more, DerivesParam, param_plain, param_final, DerivesSomeParams, some_params_one, some_params_more, DerivesParams, params_none, params_some, DerivesBody, body_block, body_none, DerivesCtor, ctor_plain, ctor_super, DerivesConstants, constants_one, constants_more, DerivesParent, parent_none, parent_some, DerivesParents, parents_none, parents_some, DerivesInterfaces, interfaces_none, interfaces_some, DerivesType, type_class, type_interface, DerivesClass, class, DerivesInterface, interface, DerivesMembers, members_none, members_more, members_empty, DerivesMember, member_type, member_field, member_method, member_ctor, DerivesImembers, imembers_none, imembers_more, imembers_empty, DerivesImember, imember_type, imember_field, imember_method, DerivesPackage, package_none, package_some, DerivesImport, import_one, import_all, import_static_one, import_static_all, DerivesImports, imports_none, imports_more, DerivesTypes, types_none, types_more, types_empty, Derives, file}
 use Rattle.jv_grammar.proofs.DeclDepth.{deep_body, deep_ctor, deep_constants, deep_type, deep_class, deep_interface, deep_members, deep_member, deep_imembers, deep_imember, deep_types, deep_file}
 use Rattle.jv_grammar.proofs.Stretches.{Parts, done, eased_parts, round, braces, part, parts, loose}
 use Rattle.jv_grammar.proofs.Nested.{nests_name, nests_ty, nests_result, nests_args, parts_init}
@@ -106,6 +106,8 @@ parts_package (package_some d) = loose refl (parts (parts_name d) (λ c. loose r
 parts_import : {most : ℕ} {b : Option Terminal} {x : ImportTree} {xs ys : List Terminal} → DerivesImport x xs ys → Parts most b 1 xs ys
 parts_import (import_one d) = loose refl (parts (parts_name d) (λ c. loose refl (part done)))
 parts_import (import_all d) = loose refl (parts (parts_name d) (λ c. loose refl (loose refl (loose refl (part done)))))
+parts_import (import_static_one d h) = loose refl (loose refl (parts (parts_name d) (λ c. loose refl (part done))))
+parts_import (import_static_all d) = loose refl (loose refl (parts (parts_name d) (λ c. loose refl (loose refl (loose refl (part done))))))
 
 pub parts_imports : {most : ℕ} {b : Option Terminal} {is : List ImportTree} {xs ys : List Terminal} → DerivesImports is xs ys → Parts most b 1 xs ys
 parts_imports imports_none = part done

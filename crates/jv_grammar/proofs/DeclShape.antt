@@ -10,7 +10,7 @@ use Rattle.jv_tree.specs.Shaped.{IsName, IsMod, AreShapedVars, AreShapedStmts, A
 use Rattle.jv_grammar.specs.declared.terminal.Terminal.{Terminal}
 use Rattle.jv_grammar.specs.Marks.{modifiers}
 use Rattle.jv_grammar.specs.TypeGrammar.{DerivesNames, names_one, names_more}
-use Rattle.jv_grammar.specs.DeclGrammar.{DerivesMods, mods_none, mods_more, DerivesParam, param_plain, param_final, DerivesSomeParams, some_params_one, some_params_more, DerivesParams, params_none, params_some, DerivesBody, body_block, body_none, DerivesCtor, ctor_plain, ctor_super, DerivesConstants, constants_one, constants_more, DerivesParent, parent_none, parent_some, DerivesParents, parents_none, parents_some, DerivesInterfaces, interfaces_none, interfaces_some, DerivesType, type_class, type_interface, DerivesClass, class, DerivesInterface, interface, DerivesMembers, members_none, members_more, members_empty, DerivesMember, member_type, member_field, member_method, member_ctor, DerivesImembers, imembers_none, imembers_more, imembers_empty, DerivesImember, imember_type, imember_field, imember_method, DerivesPackage, package_none, package_some, DerivesImport, import_one, import_all, DerivesImports, imports_none, imports_more, DerivesTypes, types_none, types_more, types_empty, Derives, file}
+use Rattle.jv_grammar.specs.DeclGrammar.{DerivesMods, mods_none, mods_more, DerivesParam, param_plain, param_final, DerivesSomeParams, some_params_one, some_params_more, DerivesParams, params_none, params_some, DerivesBody, body_block, body_none, DerivesCtor, ctor_plain, ctor_super, DerivesConstants, constants_one, constants_more, DerivesParent, parent_none, parent_some, DerivesParents, parents_none, parents_some, DerivesInterfaces, interfaces_none, interfaces_some, DerivesType, type_class, type_interface, DerivesClass, class, DerivesInterface, interface, DerivesMembers, members_none, members_more, members_empty, DerivesMember, member_type, member_field, member_method, member_ctor, DerivesImembers, imembers_none, imembers_more, imembers_empty, DerivesImember, imember_type, imember_field, imember_method, DerivesPackage, package_none, package_some, DerivesImport, import_one, import_all, import_static_one, import_static_all, DerivesImports, imports_none, imports_more, DerivesTypes, types_none, types_more, types_empty, Derives, file}
 use Rattle.jv_grammar.specs.DeclWidth.{wide_param, wide_some_params, wide_params, wide_body, wide_ctor, wide_constants, wide_type, wide_class, wide_interface, wide_members, wide_member, wide_imembers, wide_imember, wide_types, wide_file}
 use Rattle.jv_grammar.proofs.Read.{among}
 use Rattle.jv_grammar.proofs.Shape.{shape_name, shape_ty, shape_result, shape_init, shape_args}
@@ -116,6 +116,8 @@ shape_package (package_some d) = shape_name d
 shape_import : {i : ImportTree} {xs ys : List Terminal} → DerivesImport i xs ys → IsShapedImport i
 shape_import (import_one d) = (shape_name d, λ e one. absurd (true≢false (sym e)))
 shape_import (import_all d) = (shape_name d, λ e one. absurd (true≢false (sym e)))
+shape_import (import_static_one d h) = (shape_name d, λ e one. h)
+shape_import (import_static_all d) = (shape_name d, λ e one. absurd (true≢false one))
 
 shape_imports : {is : List ImportTree} {xs ys : List Terminal} → DerivesImports is xs ys → All IsShapedImport is
 shape_imports imports_none = All-nil IsShapedImport

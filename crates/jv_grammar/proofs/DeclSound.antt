@@ -1,5 +1,5 @@
 -- What is read derives: declarations and files.
-use Rattle.std.proofs.Common.{◌≡◌, ℕ, zero, suc, ◌≤◌, ◌&&◌, not, ◌⊎◌, inl, inr, Bool, true, false, cond, nat_eq, List, [], ◌∷◌, length, arith, refl, sym, ap, ◌∙◌, subst, true≢false, Ok, Some, None, Option}
+use Rattle.std.proofs.Common.{◌≡◌, ℕ, zero, suc, ◌≤◌, ◌&&◌, not, ◌⊎◌, inl, inr, Bool, true, false, cond, nat_eq, List, [], ◌∷◌, length, arith, refl, sym, ap, ◌∙◌, subst, true≢false, ltb-false, nat_lt, Ok, Some, None, Option}
 use Rattle.std.specs.List.{list_any}
 use borrow.Author.Tests.{eqb-true}
 use Rattle.jv_tree.specs.declared.name.Ident.{Ident as Identifier}
@@ -10,14 +10,14 @@ use Rattle.jv_tree.specs.DeclTree as t
 use Rattle.jv_tree.specs.DeclTree.{ParamTree, TypeDeclTree, MemberTree, MemberTrees, ImportTree, UnitTree}
 use Rattle.jv_grammar.specs.declared.terminal.Terminal.{Terminal}
 use Rattle.jv_grammar.specs.declared.terminal.Terminal.TheVariants.{Ident, Keyword, Punct}
-use Rattle.jv_grammar.specs.Marks.{paren_open, paren_close, brace_open, brace_close, semicolon, comma, dot, equals_sign, star, word_class, word_extends, word_final, word_implements, word_import, word_interface, word_package, word_super, word_void, modifiers}
+use Rattle.jv_grammar.specs.Marks.{paren_open, paren_close, brace_open, brace_close, semicolon, comma, dot, equals_sign, star, word_class, word_extends, word_final, word_implements, word_import, word_interface, word_package, word_static, word_super, word_void, modifiers}
 use Rattle.jv_grammar.specs.TypeGrammar.{is_mark, starts, starts_word, DerivesName, name_one, name_more, DerivesNames, names_one, names_more, DerivesTy, DerivesResult, result_ty, result_void}
-use Rattle.jv_grammar.specs.DeclGrammar.{DerivesMods, mods_none, mods_more, DerivesParam, param_plain, param_final, DerivesSomeParams, some_params_one, some_params_more, DerivesParams, params_none, params_some, DerivesBody, body_block, body_none, DerivesCtor, ctor_plain, ctor_super, DerivesConstants, constants_one, constants_more, DerivesParent, parent_none, parent_some, DerivesParents, parents_none, parents_some, DerivesInterfaces, interfaces_none, interfaces_some, DerivesType, type_class, type_interface, DerivesClass, class, DerivesInterface, interface, DerivesMembers, members_none, members_more, members_empty, DerivesMember, member_type, member_field, member_method, member_ctor, DerivesImembers, imembers_none, imembers_more, imembers_empty, DerivesImember, imember_type, imember_field, imember_method, DerivesPackage, package_none, package_some, DerivesImport, import_one, import_all, DerivesImports, imports_none, imports_more, DerivesTypes, types_none, types_more, types_empty, Derives, file}
+use Rattle.jv_grammar.specs.DeclGrammar.{DerivesMods, mods_none, mods_more, DerivesParam, param_plain, param_final, DerivesSomeParams, some_params_one, some_params_more, DerivesParams, params_none, params_some, DerivesBody, body_block, body_none, DerivesCtor, ctor_plain, ctor_super, DerivesConstants, constants_one, constants_more, DerivesParent, parent_none, parent_some, DerivesParents, parents_none, parents_some, DerivesInterfaces, interfaces_none, interfaces_some, DerivesType, type_class, type_interface, DerivesClass, class, DerivesInterface, interface, DerivesMembers, members_none, members_more, members_empty, DerivesMember, member_type, member_field, member_method, member_ctor, DerivesImembers, imembers_none, imembers_more, imembers_empty, DerivesImember, imember_type, imember_field, imember_method, DerivesPackage, package_none, package_some, DerivesImport, import_one, import_all, import_static_one, import_static_all, DerivesImports, imports_none, imports_more, DerivesTypes, types_none, types_more, types_empty, Derives, file}
 use Rattle.jv_grammar.specs.Reader.{rest_of, closed}
 use Rattle.jv_grammar.specs.TypeReader.{name_of, ty_of}
 use Rattle.jv_grammar.specs.ExprReader.{args_of, init_of, below}
 use Rattle.jv_grammar.specs.StmtReader.{block_of, bstmts_of}
-use Rattle.jv_grammar.specs.DeclReader.{ident_of, calls, mods_of, names_of, parent_of, headed_of, named_of, param_of, some_params_of, params_of, constants_of, fields_in, body_of, field_of, method_of, typed_of, plain_of, call_of, inner_of, ctor_of, BelowType, begins_type, behind_mods, member_of, members_of, braced_of, class_of, interface_of, decl_of, below_type, type_of, types_of, package_of, path_of, import_of, imports_of, file_of}
+use Rattle.jv_grammar.specs.DeclReader.{ident_of, calls, mods_of, names_of, parent_of, headed_of, named_of, param_of, some_params_of, params_of, constants_of, fields_in, body_of, field_of, method_of, typed_of, plain_of, call_of, inner_of, ctor_of, BelowType, begins_type, behind_mods, member_of, members_of, braced_of, class_of, interface_of, decl_of, below_type, type_of, types_of, package_of, path_of, stands_alone, listed_of, import_of, imports_of, file_of}
 use Rattle.jv_grammar.specs.Width.{wide_ty, wide_result}
 use Rattle.jv_grammar.specs.DeclWidth.{wide_param, wide_some_params, wide_params, wide_body, wide_ctor, wide_constants, wide_type, wide_class, wide_interface, wide_members, wide_member, wide_imembers, wide_imember, wide_types, wide_file}
 use Rattle.jv_grammar.proofs.Read.{bind_ok, chosen, err_ok, ok_is, both, starts_is, closed_ok}
@@ -583,17 +583,17 @@ abbrev IsPath : Bool → List Identifier → List Terminal → List Terminal →
 IsPath false ids xs ys = DerivesName ids xs ys
 IsPath true ids xs ys = (p : ℕ) × (q : ℕ) × DerivesName ids xs (Punct p dot ∷ Punct q star ∷ ys)
 
-abbrev FoundPath : List Terminal → ImportTree × List Terminal → Type 0
-FoundPath xs r = IsPath r.0.all r.0.name xs r.1 × (r.0.is_static ≡ false)
+abbrev FoundPath : Bool → List Terminal → ImportTree × List Terminal → Type 0
+FoundPath s xs r = IsPath r.0.all r.0.name xs r.1 × (r.0.is_static ≡ s)
 
 longer_path : (b : Bool) (i : Identifier) (ids : List Identifier) (u : ℕ) (xs ys : List Terminal) → IsPath b ids xs ys → IsPath b (i ∷ ids) (Ident i ∷ Punct u dot ∷ xs) ys
 longer_path false i ids u xs ys d = name_more d
 longer_path true i ids u xs ys (p, q, d) = (p, q, name_more d)
 
-path_ok : (k : ℕ) (xs : List Terminal) (r : ImportTree × List Terminal) → path_of k xs ≡ Ok r → FoundPath xs r
+path_ok : (s : Bool) (k : ℕ) (xs : List Terminal) (r : ImportTree × List Terminal) → path_of s k xs ≡ Ok r → FoundPath s xs r
 unfolding path_of
-path_ok zero xs r h = absurd (err_ok h)
-path_ok (suc k) xs r h =
+path_ok s zero xs r h = absurd (err_ok h)
+path_ok s (suc k) xs r h =
     let i = bind_ok (ident_of xs) _ _ h in
     let e = ident_ok xs i.0 i.1 in
     elim (chosen (starts dot i.0.1) _ _ _ i.2) [
@@ -601,14 +601,14 @@ path_ok (suc k) xs r h =
         | inl v ↦ (let m = two_are dot star i.0.1 w.0 v.0 in
             let d : DerivesName (i.0.0 ∷ []) (Ident i.0.0 ∷ i.0.1) i.0.1 = name_one in
             let d' = subst (λ z. DerivesName (i.0.0 ∷ []) z i.0.1) (sym e) d in
-            subst (FoundPath xs) (ok_is v.1) ((m.0, m.1, subst (DerivesName (i.0.0 ∷ []) xs) m.2 d'), refl))
+            subst (FoundPath s xs) (ok_is v.1) ((m.0, m.1, subst (DerivesName (i.0.0 ∷ []) xs) m.2 d'), refl))
         | inr v ↦ (let m = starts_is dot i.0.1 w.0 in
-            let x = bind_ok (path_of k (rest_of i.0.1)) _ _ v.1 in
-            let d = path_ok k (rest_of i.0.1) x.0 x.1 in
-            subst (FoundPath xs) (ok_is x.2)
-            (subst (λ z. IsPath x.0.0.all (i.0.0 ∷ x.0.0.name) z x.0.1) (sym (e ∙ ap (λ z. Ident i.0.0 ∷ z) m.1)) (longer_path x.0.0.all i.0.0 x.0.0.name m.0 (rest_of i.0.1) x.0.1 d.0), d.1))
+            let x = bind_ok (path_of s k (rest_of i.0.1)) _ _ v.1 in
+            let d = path_ok s k (rest_of i.0.1) x.0 x.1 in
+            subst (FoundPath s xs) (ok_is x.2)
+            (subst (λ z. IsPath x.0.0.all (i.0.0 ∷ x.0.0.name) z x.0.1) (sym (e ∙ ap (λ z. Ident i.0.0 ∷ z) m.1)) (longer_path x.0.0.all i.0.0 x.0.0.name m.0 (rest_of i.0.1) x.0.1 d.0), refl))
       ]
-      | inr w ↦ subst (FoundPath xs) (ok_is w.1) (subst (λ z. DerivesName (i.0.0 ∷ []) z i.0.1) (sym e) name_one, refl)
+      | inr w ↦ subst (FoundPath s xs) (ok_is w.1) (subst (λ z. DerivesName (i.0.0 ∷ []) z i.0.1) (sym e) name_one, refl)
     ]
 
 is_import : (b s : Bool) (ids : List Identifier) (p q : ℕ) (xs ys : List Terminal) → s ≡ false → IsPath b ids xs (Punct q semicolon ∷ ys) → DerivesImport (record { name = ids; all = b; is_static = s }) (Keyword p word_import ∷ xs) ys
@@ -616,14 +616,38 @@ is_import b true ids p q xs ys e d = absurd (true≢false e)
 is_import false false ids p q xs ys e d = import_one d
 is_import true false ids p q xs ys e (u, v, d) = import_all d
 
+is_static_import : (b s : Bool) (ids : List Identifier) (p o q : ℕ) (xs ys : List Terminal) → s ≡ true → s && (not b && nat_lt (length ids) 2) ≡ false → IsPath b ids xs (Punct q semicolon ∷ ys)
+    → DerivesImport (record { name = ids; all = b; is_static = s }) (Keyword p word_import ∷ Keyword o word_static ∷ xs) ys
+is_static_import b false ids p o q xs ys e a d = absurd (true≢false (sym e))
+is_static_import false true ids p o q xs ys e a d = import_static_one d (let l = ltb-false (length ids) 2 a in omega (arith, l))
+is_static_import true true ids p o q xs ys e a (u, v, d) = import_static_all d
+
+-- an import behind its words
+abbrev IsListed : Bool → List Terminal → List Terminal → ImportTree → Type 0
+IsListed s xs ys t = (q : ℕ) × IsPath t.all t.name xs (Punct q semicolon ∷ ys) × (t.is_static ≡ s) × (stands_alone t ≡ false)
+
+listed_ok : (s : Bool) (xs : List Terminal) (r : ImportTree × List Terminal) → listed_of s xs ≡ Ok r → IsListed s xs r.1 r.0
+unfolding listed_of
+listed_ok s xs r h =
+    let x = bind_ok (path_of s (length xs) xs) _ _ h in
+    elim (chosen (stands_alone x.0.0) _ _ _ x.2) [
+      | inl w ↦ absurd (err_ok w.1)
+      | inr w ↦ (let q = closed_ok semicolon x.0.0 x.0.1 r w.1 in
+          let f = path_ok s (length xs) xs x.0 x.1 in
+          let d = subst (IsPath x.0.0.all x.0.0.name xs) q.1 f.0 in
+          subst (IsListed s xs r.1) (sym q.2) (q.0, d, f.1, w.0))
+    ]
+
 pub derives_import : (p : ℕ) (xs : List Terminal) (r : ImportTree × List Terminal) → import_of xs ≡ Ok r → DerivesImport r.0 (Keyword p word_import ∷ xs) r.1
 unfolding import_of
-derives_import p xs r h =
-    let x = bind_ok (path_of (length xs) xs) _ _ h in
-    let q = closed_ok semicolon x.0.0 x.0.1 r x.2 in
-    let f = path_ok (length xs) xs x.0 x.1 in
-    let d = subst (IsPath x.0.0.all x.0.0.name xs) q.1 f.0 in
-    subst (λ z. DerivesImport z (Keyword p word_import ∷ xs) r.1) (sym q.2) (is_import x.0.0.all x.0.0.is_static x.0.0.name p q.0 xs r.1 f.1 d)
+derives_import p xs r h = elim (chosen (starts_word word_static xs) _ _ _ h) [
+  | inl w ↦ (let m = starts_word_is word_static xs w.0 in
+      let f = listed_ok true (rest_of xs) r w.1 in
+      let d : DerivesImport r.0 (Keyword p word_import ∷ Keyword m.0 word_static ∷ rest_of xs) r.1 =
+      is_static_import r.0.all r.0.is_static r.0.name p m.0 f.0 (rest_of xs) r.1 f.2 f.3 f.1 in
+      subst (λ z. DerivesImport r.0 (Keyword p word_import ∷ z) r.1) (sym m.1) d)
+  | inr w ↦ (let f = listed_ok false xs r w.1 in is_import r.0.all r.0.is_static r.0.name p f.0 xs r.1 f.2 f.1)
+]
 
 pub derives_imports : (k : ℕ) (xs : List Terminal) (r : List ImportTree × List Terminal) → imports_of k xs ≡ Ok r → FoundImports xs r
 unfolding imports_of

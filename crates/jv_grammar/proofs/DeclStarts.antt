@@ -10,7 +10,7 @@ use Rattle.jv_grammar.specs.declared.form.Form.{Form}
 use Rattle.jv_grammar.specs.declared.terminal.Terminal.{Terminal}
 use Rattle.jv_grammar.specs.declared.terminal.Terminal.TheVariants.{Ident, Keyword, Punct}
 use Rattle.jv_grammar.specs.Marks.{paren_open, brace_open, dot, word_extends, word_final, word_super, word_class, word_interface, modifiers}
-use Rattle.jv_grammar.specs.TypeGrammar.{starts, starts_word, name_one, name_more, prim_boolean, prim_char, prim_int, prim_long, DerivesBase, base_prim, base_name, pairs_none, pairs_more, DerivesTy, ty, DerivesResult, result_ty, result_void}
+use Rattle.jv_grammar.specs.TypeGrammar.{starts, starts_word, DerivesName, name_one, name_more, prim_boolean, prim_char, prim_int, prim_long, DerivesBase, base_prim, base_name, pairs_none, pairs_more, DerivesTy, ty, DerivesResult, result_ty, result_void}
 use Rattle.jv_grammar.specs.ExprGrammar.{DerivesExpr, expr_assign, expr_cond, DerivesCond, cond_bin, cond_choice, DerivesBin, bin_unary, bin_one, bin_chain, DerivesUnary, unary_sign, unary_step, unary_minimum, unary_minimum_long, unary_cast, unary_post, DerivesCast, cast_prim, cast_reference, DerivesPost, post_primary, post_step, DerivesPrimary, primary_head, primary_field, primary_call, primary_index, DerivesHead, head_literal, head_this, head_paren, head_name, head_call, head_super_field, head_super_call, head_new, head_new_array, head_new_list}
 use Rattle.jv_grammar.specs.StmtGrammar.{var_alone, var_init, DerivesVars, vars_one, vars_more, local_vars, local_final, DerivesBlock, block, DerivesBstmts, bstmts_none, bstmts_more, bstmt_local, bstmt_stmt, DerivesStmt, stmt_block, stmt_empty, stmt_effect, stmt_if, stmt_if_else, stmt_while, stmt_do, stmt_for, stmt_return, stmt_break, stmt_continue}
 use Rattle.jv_grammar.specs.DeclGrammar.{DerivesMods, mods_none, mods_more, DerivesParams, params_none, params_some, DerivesConstants, constants_one, constants_more, DerivesInterfaces, interfaces_none, interfaces_some, DerivesType, type_class, type_interface, DerivesClass, class, DerivesInterface, interface, DerivesMember, member_type, member_field, member_method, member_ctor, DerivesImember, imember_type, imember_field, imember_method}
@@ -50,6 +50,11 @@ mods_word (mods_more m d) h = refl
 pub mods_no_word : (w : ℕ) → Each (λ k. nat_eq k w ≡ false) modifiers → {ks : List ℕ} {xs ys : List Terminal} → DerivesMods ks xs ys → starts_word w ys ≡ false → starts_word w xs ≡ false
 mods_no_word w e mods_none h = h
 mods_no_word w e (mods_more {k} m d) h = among (λ o. nat_eq o w ≡ false) modifiers k e m
+
+-- no keyword begins a name
+pub name_no_word : (w : ℕ) {ids : List Identifier} {xs ys : List Terminal} → DerivesName ids xs ys → starts_word w xs ≡ false
+name_no_word w name_one = refl
+name_no_word w (name_more d) = refl
 
 -- what a type begins with
 pub base_begins : {p : ℕ} {b : BaseTree} {xs ys : List Terminal} → DerivesBase p b xs ys → (starts_mod xs ≡ false) × (begins_type xs ≡ false) × (begins_word xs ≡ true)

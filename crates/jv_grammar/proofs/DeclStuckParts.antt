@@ -10,7 +10,7 @@ use Rattle.jv_tree.specs.DeclTree as t
 use Rattle.jv_tree.specs.DeclTree.{ParamTree, ImportTree}
 use Rattle.jv_grammar.specs.declared.terminal.Terminal.{Terminal}
 use Rattle.jv_grammar.specs.declared.terminal.Terminal.TheVariants.{Ident, Keyword, Punct}
-use Rattle.jv_grammar.specs.Marks.{paren_open, paren_close, brace_open, brace_close, semicolon, comma, dot, equals_sign, star, word_extends, word_final, word_implements, word_import, word_package, word_super, word_void}
+use Rattle.jv_grammar.specs.Marks.{paren_open, paren_close, brace_open, brace_close, semicolon, comma, dot, equals_sign, star, word_extends, word_final, word_implements, word_import, word_package, word_static, word_super, word_void}
 use Rattle.jv_grammar.specs.TypeGrammar.{starts, starts_word, DerivesName, name_one, name_more, DerivesTy, DerivesResult, result_ty, result_void}
 use Rattle.jv_grammar.specs.ExprGrammar.{DerivesArgs, DerivesInit}
 use Rattle.jv_grammar.specs.StmtGrammar.{DerivesVars, DerivesBstmts}
@@ -19,11 +19,11 @@ use Rattle.jv_grammar.specs.Reader.{rest_of, closed}
 use Rattle.jv_grammar.specs.TypeReader.{name_of, ty_of}
 use Rattle.jv_grammar.specs.ExprReader.{args_of, init_of, below}
 use Rattle.jv_grammar.specs.StmtReader.{vars_of, block_of, bstmts_of, below_stmt}
-use Rattle.jv_grammar.specs.DeclReader.{ident_of, calls, names_of, parent_of, headed_of, named_of, param_of, some_params_of, params_of, constants_of, body_of, field_of, method_of, typed_of, plain_of, call_of, inner_of, ctor_of, package_of, path_of, import_of, imports_of}
+use Rattle.jv_grammar.specs.DeclReader.{ident_of, calls, names_of, parent_of, headed_of, named_of, param_of, some_params_of, params_of, constants_of, body_of, field_of, method_of, typed_of, plain_of, call_of, inner_of, ctor_of, package_of, path_of, stands_alone, listed_of, import_of, imports_of}
 use Rattle.jv_grammar.specs.TypeBegins.{BeginsName, begun_name_none, begun_name_more, begun_name_whole, BeginsNames, begun_names_none, begun_names_one, begun_names_more, BeginsTy, begun_ty_whole, BeginsResult, begun_result_none, begun_result_ty, begun_result_whole}
 use Rattle.jv_grammar.specs.ExprBegins.{begun_args_whole}
 use Rattle.jv_grammar.specs.StmtBegins.{begun_vars_whole, BeginsBstmts, begun_bstmts_whole}
-use Rattle.jv_grammar.specs.DeclBegins.{BeginsParam, begun_param_ty, begun_param_final, BeginsSomeParams, begun_some_params_none, begun_some_params_one, begun_some_params_more, begun_some_params_whole, BeginsParams, begun_params_none, begun_params_some, BeginsBody, begun_body_block, BeginsCtor, begun_ctor_none, begun_ctor_plain, begun_ctor_args, begun_ctor_super, BeginsConstants, begun_constants_none, begun_constants_name, begun_constants_one, begun_constants_more, begun_constants_whole, BeginsParent, begun_parent_some, BeginsParents, begun_parents_some, BeginsInterfaces, begun_interfaces_some, begun_member_result, begun_member_vars, begun_member_params, begun_member_body, begun_member_ctor_params, begun_member_ctor, begun_imember_result, begun_imember_constants, begun_imember_params, begun_imember_body, BeginsPackage, begun_package_some, BeginsImport, begun_import_name, begun_import_star, BeginsImports, begun_imports_none, begun_imports_one, begun_imports_more}
+use Rattle.jv_grammar.specs.DeclBegins.{BeginsParam, begun_param_ty, begun_param_final, BeginsSomeParams, begun_some_params_none, begun_some_params_one, begun_some_params_more, begun_some_params_whole, BeginsParams, begun_params_none, begun_params_some, BeginsBody, begun_body_block, BeginsCtor, begun_ctor_none, begun_ctor_plain, begun_ctor_args, begun_ctor_super, BeginsConstants, begun_constants_none, begun_constants_name, begun_constants_one, begun_constants_more, begun_constants_whole, BeginsParent, begun_parent_some, BeginsParents, begun_parents_some, BeginsInterfaces, begun_interfaces_some, begun_member_result, begun_member_vars, begun_member_params, begun_member_body, begun_member_ctor_params, begun_member_ctor, begun_imember_result, begun_imember_constants, begun_imember_params, begun_imember_body, BeginsPackage, begun_package_some, BeginsImport, begun_import_name, begun_import_star, begun_import_static_name, begun_import_static_star, BeginsImports, begun_imports_none, begun_imports_one, begun_imports_more}
 use Rattle.jv_grammar.proofs.Ending.{Stops}
 use Rattle.jv_grammar.proofs.StuckLaw.{IsStuck, StuckNames, StuckParents, StuckParam, StuckSomeParams, StuckParams, StuckConstants, BeginsMemberIn, StuckPlain, StuckInner, StuckCtor, StuckPackage, StuckImport, StuckImports}
 use Rattle.jv_grammar.proofs.Read.{bind_then, chosen, err_ok, ok_is, both, starts_is, closed_ok}
@@ -238,24 +238,24 @@ longer_path : (i : Identifier) (u : ℕ) (xs : List Terminal) → BeginsPath xs 
 longer_path i u xs (inl r) = inl (begun_name_more r)
 longer_path i u xs (inr (ids, q, r, d)) = inr (i ∷ ids, q, r, name_more d)
 
-stuck_path : (c : ℕ) (xs : List Terminal) → Stops (path_of c xs) → BeginsPath xs
+stuck_path : (s : Bool) (c : ℕ) (xs : List Terminal) → Stops (path_of s c xs) → BeginsPath xs
 unfolding path_of
-stuck_path zero xs h = inl (subst BeginsName (sym (err_is h)) begun_name_none)
-stuck_path (suc c) xs h = stops_then (ident_of xs) _ h (λ q. inl (subst BeginsName (sym (ident_stop xs q)) begun_name_none)) (λ i e h'. elim (chosen (starts dot i.1) _ _ _ h') [
+stuck_path s zero xs h = inl (subst BeginsName (sym (err_is h)) begun_name_none)
+stuck_path s (suc c) xs h = stops_then (ident_of xs) _ h (λ q. inl (subst BeginsName (sym (ident_stop xs q)) begun_name_none)) (λ i e h'. elim (chosen (starts dot i.1) _ _ _ h') [
   | inl w ↦ elim (chosen (starts star (rest_of i.1)) _ _ _ w.1) [
     | inl v ↦ absurd (ok_err v.1)
     | inr v ↦ (let m = starts_is dot i.1 w.0 in
         subst BeginsPath (sym (ident_ok xs i e ∙ ap (λ z. Ident i.0 ∷ z) m.1)) (longer_path i.0 m.0 (rest_of i.1)
-        (stops_then (path_of c (rest_of i.1)) _ v.1 (stuck_path c (rest_of i.1)) (λ y e' k. absurd (ok_err k)))))
+        (stops_then (path_of s c (rest_of i.1)) _ v.1 (stuck_path s c (rest_of i.1)) (λ y e' k. absurd (ok_err k)))))
   ]
   | inr w ↦ absurd (ok_err w.1)
 ])
 
 -- a path up to the end
-path_begins : (c : ℕ) (xs : List Terminal) (r : ImportTree × List Terminal) → path_of c xs ≡ Ok r → r.1 ≡ [] → BeginsPath xs
+path_begins : (s : Bool) (c : ℕ) (xs : List Terminal) (r : ImportTree × List Terminal) → path_of s c xs ≡ Ok r → r.1 ≡ [] → BeginsPath xs
 unfolding path_of
-path_begins zero xs r h end = absurd (err_ok h)
-path_begins (suc c) xs r h end = bind_then (ident_of xs) _ _ h (λ i e h'.
+path_begins s zero xs r h end = absurd (err_ok h)
+path_begins s (suc c) xs r h end = bind_then (ident_of xs) _ _ h (λ i e h'.
     let one : DerivesName (i.0 ∷ []) xs i.1 = subst (λ z. DerivesName (i.0 ∷ []) z i.1) (sym (ident_ok xs i e)) name_one in
     elim (chosen (starts dot i.1) _ _ _ h') [
       | inl w ↦ elim (chosen (starts star (rest_of i.1)) _ _ _ w.1) [
@@ -263,9 +263,9 @@ path_begins (suc c) xs r h end = bind_then (ident_of xs) _ _ h (λ i e h'.
             let all : rest_of (rest_of i.1) ≡ [] = ap (λ (z : ImportTree × List Terminal). z.1) (ok_is v.1) ∙ end in
             inr (i.0 ∷ [], m.0, m.1, subst (DerivesName (i.0 ∷ []) xs) (m.2 ∙ ap (λ z. Punct m.0 dot ∷ Punct m.1 star ∷ z) all) one))
         | inr v ↦ (let m = starts_is dot i.1 w.0 in
-            bind_then (path_of c (rest_of i.1)) _ _ v.1 (λ x e' k.
+            bind_then (path_of s c (rest_of i.1)) _ _ v.1 (λ x e' k.
             subst BeginsPath (sym (ident_ok xs i e ∙ ap (λ z. Ident i.0 ∷ z) m.1))
-            (longer_path i.0 m.0 (rest_of i.1) (path_begins c (rest_of i.1) x e' (ap (λ (z : ImportTree × List Terminal). z.1) (ok_is k) ∙ end)))))
+            (longer_path i.0 m.0 (rest_of i.1) (path_begins s c (rest_of i.1) x e' (ap (λ (z : ImportTree × List Terminal). z.1) (ok_is k) ∙ end)))))
       ]
       | inr w ↦ inl (begun_name_whole (subst (DerivesName (i.0 ∷ []) xs) (ap (λ (z : ImportTree × List Terminal). z.1) (ok_is w.1) ∙ end) one))
     ])
@@ -274,9 +274,25 @@ import_begins : (p : ℕ) (xs : List Terminal) → BeginsPath xs → BeginsImpor
 import_begins p xs (inl r) = begun_import_name r
 import_begins p xs (inr (ids, q, r, d)) = begun_import_star d
 
+static_begins : (p o : ℕ) (xs : List Terminal) → BeginsPath xs → BeginsImport (Keyword p word_import ∷ Keyword o word_static ∷ xs)
+static_begins p o xs (inl r) = begun_import_static_name r
+static_begins p o xs (inr (ids, q, r, d)) = begun_import_static_star d
+
+-- where a single static import of one identifier is refused at the end, more of its name is asked
+stuck_listed : (s : Bool) (xs : List Terminal) → Stops (listed_of s xs) → BeginsPath xs
+unfolding listed_of
+stuck_listed s xs h = stops_then (path_of s (length xs) xs) _ h (stuck_path s (length xs) xs) (λ x e k. elim (chosen (stands_alone x.0) _ _ _ k) [
+  | inl w ↦ path_begins s (length xs) xs x e (err_is w.1)
+  | inr w ↦ path_begins s (length xs) xs x e (closed_stop semicolon x.0 x.1 w.1)
+])
+
 pub stuck_import : StuckImport
 unfolding import_of
-stuck_import xs h p = import_begins p xs (stops_then (path_of (length xs) xs) _ h (stuck_path (length xs) xs) (λ x e k. path_begins (length xs) xs x e (closed_stop semicolon x.0 x.1 k)))
+stuck_import xs h p = elim (chosen (starts_word word_static xs) _ _ _ h) [
+  | inl w ↦ (let m = starts_word_is word_static xs w.0 in
+      subst (λ z. BeginsImport (Keyword p word_import ∷ z)) (sym m.1) (static_begins p m.0 (rest_of xs) (stuck_listed true (rest_of xs) w.1)))
+  | inr w ↦ import_begins p xs (stuck_listed false xs w.1)
+]
 
 pub stuck_imports : StuckImports
 unfolding imports_of

@@ -1,17 +1,17 @@
 -- What begins a file is read to its end.
-use Rattle.std.proofs.Common.{◌≡◌, ℕ, zero, suc, ◌≤◌, false, List, [], ◌∷◌, length, arith, refl, sym, ap, subst, Ok, Err, Option, Result}
+use Rattle.std.proofs.Common.{◌≡◌, ℕ, zero, suc, ◌≤◌, Bool, true, false, List, [], ◌∷◌, length, arith, refl, sym, ap, subst, Ok, Err, Option, Result, if◌then◌else◌}
 use Rattle.jv_tree.specs.declared.name.Ident.{Ident as Identifier}
 use Rattle.jv_tree.specs.DeclTree.{TypeDeclTree, ImportTree}
 use Rattle.jv_grammar.specs.declared.terminal.Terminal.{Terminal}
-use Rattle.jv_grammar.specs.declared.terminal.Terminal.TheVariants.{Keyword}
-use Rattle.jv_grammar.specs.Marks.{semicolon, star, word_import, word_package}
-use Rattle.jv_grammar.specs.TypeGrammar.{starts, starts_word, name_one, name_more}
-use Rattle.jv_grammar.specs.DeclGrammar.{DerivesPackage, DerivesImports, package_none, package_some, import_one, import_all}
-use Rattle.jv_grammar.specs.Reader.{Reads, ◌>>=◌}
+use Rattle.jv_grammar.specs.declared.terminal.Terminal.TheVariants.{Keyword, Punct}
+use Rattle.jv_grammar.specs.Marks.{semicolon, dot, star, word_import, word_package, word_static}
+use Rattle.jv_grammar.specs.TypeGrammar.{starts, starts_word, DerivesName, name_one, name_more}
+use Rattle.jv_grammar.specs.DeclGrammar.{DerivesPackage, DerivesImports, package_none, package_some, import_one, import_all, import_static_one, import_static_all}
+use Rattle.jv_grammar.specs.Reader.{Reads, ◌>>=◌, closed}
 use Rattle.jv_grammar.specs.TypeReader.{name_of}
-use Rattle.jv_grammar.specs.DeclReader.{type_of, types_of, package_of, path_of, import_of, imports_of, file_of}
+use Rattle.jv_grammar.specs.DeclReader.{type_of, types_of, package_of, path_of, stands_alone, listed_of, import_of, imports_of, file_of}
 use Rattle.jv_grammar.specs.TypeBegins.{BeginsName, begun_name_none, begun_name_more, begun_name_whole}
-use Rattle.jv_grammar.specs.DeclBegins.{begun_package_none, begun_package_some, begun_package_whole, BeginsImport, begun_import_none, begun_import_name, begun_import_star, begun_import_whole, BeginsImports, begun_imports_none, begun_imports_one, begun_imports_more, begun_imports_whole, BeginsTypes, begun_types_none, begun_types_one, begun_types_more, begun_types_empty, begun_types_whole, begun_file_none, begun_file_package, begun_file_imports, begun_file_types, begun_file_whole}
+use Rattle.jv_grammar.specs.DeclBegins.{begun_package_none, begun_package_some, begun_package_whole, BeginsImport, begun_import_none, begun_import_name, begun_import_star, begun_import_static_name, begun_import_static_star, begun_import_whole, BeginsImports, begun_imports_none, begun_imports_one, begun_imports_more, begun_imports_whole, BeginsTypes, begun_types_none, begun_types_one, begun_types_more, begun_types_empty, begun_types_whole, begun_file_none, begun_file_package, begun_file_imports, begun_file_types, begun_file_whole}
 use Rattle.jv_grammar.proofs.BegunDepth.{begun_deep_types}
 use Rattle.jv_grammar.proofs.Rows.{HasShortRows}
 use Rattle.jv_grammar.proofs.Ending.{left_of, Ends, all_of}
@@ -19,8 +19,8 @@ use Rattle.jv_grammar.proofs.GoesLaw.{GoesTypes, GoesPackage, GoesImport, GoesIm
 use Rattle.jv_grammar.proofs.DeclDepth.{less_import, less_type}
 use Rattle.jv_grammar.proofs.Types.{reads_name}
 use Rattle.jv_grammar.proofs.DeclFew.{closed_package, closed_type, closed_imports, few_type, few_types, few_file}
-use Rattle.jv_grammar.proofs.DeclStarts.{word_no_mark, type_word}
-use Rattle.jv_grammar.proofs.DeclComplete.{got_type, reads_type, reads_types, reads_package, reads_imports, reads_file, path_one, path_all, import_turn, imports_no_package}
+use Rattle.jv_grammar.proofs.DeclStarts.{name_no_word, word_no_mark, type_word}
+use Rattle.jv_grammar.proofs.DeclComplete.{got_type, reads_type, reads_types, reads_package, reads_imports, reads_file, path_one, path_all, listed_one, listed_static, listed_all, import_turn, imports_no_package}
 use Rattle.jv_grammar.proofs.Goes.{ends_bind, goes_name}
 use Rattle.jv_grammar.proofs.BegunRows.{few_rows, rows_behind}
 use Rattle.jv_grammar.proofs.BegunDeclStarts.{begun_no_mark, begun_type, begun_types_no_word}
@@ -75,20 +75,46 @@ name_no_star (begun_name_more r) = refl
 name_no_star (begun_name_whole name_one) = refl
 name_no_star (begun_name_whole (name_more d)) = refl
 
-goes_path : (xs : List Terminal) → BeginsName xs → (k : ℕ) → length xs ≤ k → Ends (path_of k xs)
+begun_no_word : (w : ℕ) {xs : List Terminal} → BeginsName xs → starts_word w xs ≡ false
+begun_no_word w begun_name_none = refl
+begun_no_word w (begun_name_more r) = refl
+begun_no_word w (begun_name_whole d) = name_no_word w d
+
+goes_path : (s : Bool) (xs : List Terminal) → BeginsName xs → (k : ℕ) → length xs ≤ k → Ends (path_of s k xs)
 unfolding path_of
-goes_path vs begun_name_none zero l = refl
-goes_path vs begun_name_none (suc k) l = refl
-goes_path vs (begun_name_more r) zero l = absurd (omega arith)
-goes_path vs (begun_name_more {xs} r) (suc k) l = rw (name_no_star r) (ends_bind (path_of k xs) _ (goes_path xs r k (omega arith)) (λ x. refl))
-goes_path vs (begun_name_whole d) k l = ap left_of (path_one d k refl l)
+goes_path s vs begun_name_none zero l = refl
+goes_path s vs begun_name_none (suc k) l = refl
+goes_path s vs (begun_name_more r) zero l = absurd (omega arith)
+goes_path s vs (begun_name_more {xs} r) (suc k) l = rw (name_no_star r) (ends_bind (path_of s k xs) _ (goes_path s xs r k (omega arith)) (λ x. refl))
+goes_path s vs (begun_name_whole d) k l = ap left_of (path_one s d k refl l)
+
+-- behind the end, an import stands alone or its `;` is asked
+abbrev ended : ImportTree → Bool → Reads ImportTree
+ended x b = if b then Err [] else closed semicolon x []
+
+ended_ends : (x : ImportTree) (b : Bool) → Ends (ended x b)
+ended_ends x true = refl
+ended_ends x false = refl
+
+goes_listed : (s : Bool) (xs : List Terminal) → BeginsName xs → Ends (listed_of s xs)
+unfolding listed_of
+goes_listed s xs r = ends_bind (path_of s (length xs) xs) _ (goes_path s xs r (length xs) (omega arith)) (λ x. ended_ends x (stands_alone x))
+
+goes_star : (s : Bool) {ids : List Identifier} {q r : ℕ} {xs : List Terminal} → DerivesName ids xs (Punct q dot ∷ Punct r star ∷ []) → Ends (listed_of s xs)
+unfolding listed_of
+goes_star true {xs} d = rw (path_all true d (length xs) (omega arith)) refl
+goes_star false {xs} d = rw (path_all false d (length xs) (omega arith)) refl
 
 pub goes_import : GoesImport
 unfolding import_of
-goes_import p xs (begun_import_name r) = ends_bind (path_of (length xs) xs) _ (goes_path xs r (length xs) (omega arith)) (λ x. refl)
-goes_import p xs (begun_import_star d) = rw (path_all d (length xs) (omega arith)) refl
-goes_import p xs (begun_import_whole (import_one d)) = rw (path_one d (length xs) refl (omega arith)) refl
-goes_import p xs (begun_import_whole (import_all d)) = rw (path_all d (length xs) (omega arith)) refl
+goes_import p xs (begun_import_name r) = rw (begun_no_word word_static r) (goes_listed false xs r)
+goes_import p xs (begun_import_star d) = rw (name_no_word word_static d) (goes_star false d)
+goes_import p vs (begun_import_static_name {xs} r) = goes_listed true xs r
+goes_import p vs (begun_import_static_star d) = goes_star true d
+goes_import p xs (begun_import_whole (import_one d)) = rw (name_no_word word_static d, listed_one d) refl
+goes_import p xs (begun_import_whole (import_all d)) = rw (name_no_word word_static d, listed_all false d) refl
+goes_import p vs (begun_import_whole (import_static_one d h)) = rw (listed_static d h) refl
+goes_import p vs (begun_import_whole (import_static_all d)) = rw (listed_all true d) refl
 
 imports_none : (k : ℕ) → Ends (imports_of k [])
 unfolding imports_of
@@ -104,8 +130,14 @@ one_import : (k : ℕ) (xs : List Terminal) → BeginsImport xs → Ends (import
 one_import k vs begun_import_none = imports_none (suc k)
 one_import k vs (begun_import_name {p} {xs} r) = first_import k p xs (goes_import p xs (begun_import_name r))
 one_import k vs (begun_import_star {p} {xs} d) = first_import k p xs (goes_import p xs (begun_import_star d))
+one_import k vs (begun_import_static_name {p} {s} {xs} r) = first_import k p (Keyword s word_static ∷ xs) (goes_import p (Keyword s word_static ∷ xs) (begun_import_static_name r))
+one_import k vs (begun_import_static_star {p} {s} {xs} d) = first_import k p (Keyword s word_static ∷ xs) (goes_import p (Keyword s word_static ∷ xs) (begun_import_static_star d))
 one_import k vs (begun_import_whole (import_one {p} {xs} d)) = first_import k p xs (goes_import p xs (begun_import_whole (import_one d)))
 one_import k vs (begun_import_whole (import_all {p} {xs} d)) = first_import k p xs (goes_import p xs (begun_import_whole (import_all d)))
+one_import k vs (begun_import_whole (import_static_one {p} {s} {xs} d h)) =
+    first_import k p (Keyword s word_static ∷ xs) (goes_import p (Keyword s word_static ∷ xs) (begun_import_whole (import_static_one d h)))
+one_import k vs (begun_import_whole (import_static_all {p} {s} {xs} d)) =
+    first_import k p (Keyword s word_static ∷ xs) (goes_import p (Keyword s word_static ∷ xs) (begun_import_whole (import_static_all d)))
 
 pub goes_imports : GoesImports
 goes_imports xs d zero l = absurd (omega arith)
@@ -119,14 +151,20 @@ import_no_package : {xs : List Terminal} → BeginsImport xs → starts_word wor
 import_no_package begun_import_none = refl
 import_no_package (begun_import_name r) = refl
 import_no_package (begun_import_star d) = refl
+import_no_package (begun_import_static_name r) = refl
+import_no_package (begun_import_static_star d) = refl
 import_no_package (begun_import_whole (import_one d)) = refl
 import_no_package (begun_import_whole (import_all d)) = refl
+import_no_package (begun_import_whole (import_static_one d h)) = refl
+import_no_package (begun_import_whole (import_static_all d)) = refl
 
 begun_no_package : {xs : List Terminal} → BeginsImports xs → starts_word word_package xs ≡ false
 begun_no_package begun_imports_none = refl
 begun_no_package (begun_imports_one r) = import_no_package r
 begun_no_package (begun_imports_more (import_one d) r) = refl
 begun_no_package (begun_imports_more (import_all d) r) = refl
+begun_no_package (begun_imports_more (import_static_one d h) r) = refl
+begun_no_package (begun_imports_more (import_static_all d) r) = refl
 begun_no_package (begun_imports_whole d) = imports_no_package d refl
 
 -- a file that ends in its package, in its imports or in its types

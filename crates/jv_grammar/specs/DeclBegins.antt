@@ -8,7 +8,7 @@ use Rattle.jv_tree.specs.StmtTree.{VarTree, StmtTrees}
 use Rattle.jv_tree.specs.DeclTree.{ParamTree, TypeDeclTree, MemberTree, MemberTrees, ImportTree, UnitTree}
 use Rattle.jv_grammar.specs.declared.terminal.Terminal.{Terminal}
 use Rattle.jv_grammar.specs.declared.terminal.Terminal.TheVariants.{Ident, Keyword, Punct}
-use Rattle.jv_grammar.specs.Marks.{paren_open, brace_open, semicolon, comma, dot, equals_sign, star, word_class, word_extends, word_final, word_implements, word_import, word_interface, word_package, word_super}
+use Rattle.jv_grammar.specs.Marks.{paren_open, brace_open, semicolon, comma, dot, equals_sign, star, word_class, word_extends, word_final, word_implements, word_import, word_interface, word_package, word_static, word_super}
 use Rattle.jv_grammar.specs.TypeGrammar.{DerivesName, DerivesTy, DerivesResult}
 use Rattle.jv_grammar.specs.ExprGrammar.{DerivesArgs, DerivesInit}
 use Rattle.jv_grammar.specs.DeclGrammar.{DerivesMods, DerivesParam, DerivesSomeParams, DerivesParams, DerivesBody, DerivesCtor, DerivesConstants, DerivesParent, DerivesParents, DerivesInterfaces, DerivesType, DerivesClass, DerivesInterface, DerivesMembers, DerivesMember, DerivesImembers, DerivesImember, DerivesPackage, DerivesImport, DerivesImports, DerivesTypes, Derives}
@@ -161,15 +161,18 @@ pub data BeginsPackage : List Terminal → Type 0 where
   begun_package_some : {p : ℕ} {xs : List Terminal} → BeginsName xs → BeginsPackage (Keyword p word_package ∷ xs)
   begun_package_whole : {n : Option (List Identifier)} {xs : List Terminal} → DerivesPackage n xs [] → BeginsPackage xs
 
--- "import" name ["." "*"] ";"; a `.` behind the name is that of a begun name, too
+-- "import" ["static"] name ["." "*"] ";"; a `.` behind the name is that of a begun name, too
 pub data BeginsImport : List Terminal → Type 0 where
   begun_import_none : BeginsImport []
   begun_import_name : {p : ℕ} {xs : List Terminal} → BeginsName xs → BeginsImport (Keyword p word_import ∷ xs)
   begun_import_star : {ids : List Identifier} {p q r : ℕ} {xs : List Terminal}
       → DerivesName ids xs (Punct q dot ∷ Punct r star ∷ []) → BeginsImport (Keyword p word_import ∷ xs)
+  begun_import_static_name : {p s : ℕ} {xs : List Terminal} → BeginsName xs → BeginsImport (Keyword p word_import ∷ Keyword s word_static ∷ xs)
+  begun_import_static_star : {ids : List Identifier} {p q r s : ℕ} {xs : List Terminal}
+      → DerivesName ids xs (Punct q dot ∷ Punct r star ∷ []) → BeginsImport (Keyword p word_import ∷ Keyword s word_static ∷ xs)
   begun_import_whole : {x : ImportTree} {xs : List Terminal} → DerivesImport x xs [] → BeginsImport xs
 
--- {"import" name ["." "*"] ";"}
+-- {"import" ["static"] name ["." "*"] ";"}
 pub data BeginsImports : List Terminal → Type 0 where
   begun_imports_none : BeginsImports []
   begun_imports_one : {xs : List Terminal} → BeginsImport xs → BeginsImports xs
@@ -184,7 +187,7 @@ pub data BeginsTypes : List Terminal → Type 0 where
   begun_types_empty : {p : ℕ} {xs : List Terminal} → BeginsTypes xs → BeginsTypes (Punct p semicolon ∷ xs)
   begun_types_whole : {ts : List TypeDeclTree} {xs : List Terminal} → DerivesTypes ts xs [] → BeginsTypes xs
 
--- file = ["package" name ";"] {"import" name ["." "*"] ";"} {type | ";"}: the terminals, all of them, begin a file
+-- file = ["package" name ";"] {"import" ["static"] name ["." "*"] ";"} {type | ";"}: the terminals, all of them, begin a file
 pub data Begins : List Terminal → Type 0 where
   begun_file_none : Begins []
   begun_file_package : {xs : List Terminal} → BeginsPackage xs → Begins xs

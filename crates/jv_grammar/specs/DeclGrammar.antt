@@ -1,6 +1,6 @@
 -- The grammar of declarations and files. `DerivesX d xs ys` says that X derives the terminals of xs up to ys, with the tree d; ys are
 -- those that stand behind it.
-use Rattle.std.specs.Prelude.{ℕ, true, false, List, [], ◌∷◌, Option, Some, None}
+use Rattle.std.specs.Prelude.{ℕ, ◌<◌, true, false, List, [], ◌∷◌, length, Option, Some, None}
 use Rattle.jv_tree.specs.declared.name.Ident.{Ident as Identifier}
 use Rattle.jv_tree.specs.TypeTree.{TypeTree}
 use Rattle.jv_tree.specs.ExprTree.{ExprTrees, InitTree}
@@ -10,7 +10,7 @@ use Rattle.jv_tree.specs.DeclTree.{ParamTree, TypeDeclTree, MemberTree, MemberTr
 use Rattle.jv_tree.specs.Shaped.{IsOneOf}
 use Rattle.jv_grammar.specs.declared.terminal.Terminal.{Terminal}
 use Rattle.jv_grammar.specs.declared.terminal.Terminal.TheVariants.{Ident, Keyword, Punct}
-use Rattle.jv_grammar.specs.Marks.{paren_open, paren_close, brace_open, brace_close, semicolon, comma, dot, equals_sign, star, word_class, word_extends, word_final, word_implements, word_import, word_interface, word_package, word_super, modifiers}
+use Rattle.jv_grammar.specs.Marks.{paren_open, paren_close, brace_open, brace_close, semicolon, comma, dot, equals_sign, star, word_class, word_extends, word_final, word_implements, word_import, word_interface, word_package, word_static, word_super, modifiers}
 use Rattle.jv_grammar.specs.TypeGrammar.{DerivesName, DerivesNames, DerivesTy, DerivesResult}
 use Rattle.jv_grammar.specs.ExprGrammar.{DerivesArgs, DerivesInit}
 use Rattle.jv_grammar.specs.StmtGrammar.{DerivesVars, DerivesBlock, DerivesBstmts}
@@ -140,15 +140,21 @@ pub data DerivesPackage : Option (List Identifier) → List Terminal → List Te
   package_some : {ids : List Identifier} {p q : ℕ} {xs ys : List Terminal}
       → DerivesName ids xs (Punct q semicolon ∷ ys) → DerivesPackage (Some ids) (Keyword p word_package ∷ xs) ys
 
--- "import" name ["." "*"] ";"
+-- "import" ["static"] name ["." "*"] ";"; the name of a static import has two identifiers at least where `;` stands behind it
 pub data DerivesImport : ImportTree → List Terminal → List Terminal → Type 0 where
   import_one : {ids : List Identifier} {p q : ℕ} {xs ys : List Terminal}
       → DerivesName ids xs (Punct q semicolon ∷ ys) → DerivesImport (record { name = ids; all = false; is_static = false }) (Keyword p word_import ∷ xs) ys
   import_all : {ids : List Identifier} {p q r u : ℕ} {xs ys : List Terminal}
       → DerivesName ids xs (Punct q dot ∷ Punct r star ∷ Punct u semicolon ∷ ys)
       → DerivesImport (record { name = ids; all = true; is_static = false }) (Keyword p word_import ∷ xs) ys
+  import_static_one : {ids : List Identifier} {p q s : ℕ} {xs ys : List Terminal}
+      → DerivesName ids xs (Punct q semicolon ∷ ys) → 1 < length ids
+      → DerivesImport (record { name = ids; all = false; is_static = true }) (Keyword p word_import ∷ Keyword s word_static ∷ xs) ys
+  import_static_all : {ids : List Identifier} {p q r s u : ℕ} {xs ys : List Terminal}
+      → DerivesName ids xs (Punct q dot ∷ Punct r star ∷ Punct u semicolon ∷ ys)
+      → DerivesImport (record { name = ids; all = true; is_static = true }) (Keyword p word_import ∷ Keyword s word_static ∷ xs) ys
 
--- {"import" name ["." "*"] ";"}
+-- {"import" ["static"] name ["." "*"] ";"}
 pub data DerivesImports : List ImportTree → List Terminal → List Terminal → Type 0 where
   imports_none : {ys : List Terminal} → DerivesImports [] ys ys
   imports_more : {x : ImportTree} {is : List ImportTree} {xs zs ys : List Terminal}
@@ -161,7 +167,7 @@ pub data DerivesTypes : List TypeDeclTree → List Terminal → List Terminal �
       → DerivesType x xs zs → DerivesTypes ts zs ys → DerivesTypes (x ∷ ts) xs ys
   types_empty : {ts : List TypeDeclTree} {p : ℕ} {xs ys : List Terminal} → DerivesTypes ts xs ys → DerivesTypes ts (Punct p semicolon ∷ xs) ys
 
--- file = ["package" name ";"] {"import" name ["." "*"] ";"} {type | ";"}: the terminals, all of them, derive the tree
+-- file = ["package" name ";"] {"import" ["static"] name ["." "*"] ";"} {type | ";"}: the terminals, all of them, derive the tree
 pub data Derives : List Terminal → UnitTree → Type 0 where
   file : {n : Option (List Identifier)} {is : List ImportTree} {ts : List TypeDeclTree} {xs zs ws : List Terminal}
       → DerivesPackage n xs zs → DerivesImports is zs ws → DerivesTypes ts ws []

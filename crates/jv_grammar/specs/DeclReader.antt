@@ -1,5 +1,5 @@
 -- Reading declarations and files.
-use Rattle.std.specs.Prelude.{ℕ, zero, suc, Bool, true, false, ◌&&◌, ◌||◌, not, nat_eq, List, [], ◌∷◌, length, Option, None, Some, Result, Ok, Err, if◌then◌else◌}
+use Rattle.std.specs.Prelude.{ℕ, zero, suc, Bool, true, false, ◌&&◌, ◌||◌, not, nat_eq, nat_lt, List, [], ◌∷◌, length, Option, None, Some, Result, Ok, Err, if◌then◌else◌}
 use Rattle.std.specs.List.{list_any}
 use Rattle.jv_tree.specs.declared.name.Ident.{Ident as Identifier}
 use Rattle.jv_tree.specs.TypeTree.{void, TypeTree}
@@ -9,7 +9,7 @@ use Rattle.jv_tree.specs.DeclTree as d
 use Rattle.jv_tree.specs.DeclTree.{ParamTree, TypeDeclTree, MemberTree, MemberTrees, ImportTree, UnitTree}
 use Rattle.jv_grammar.specs.declared.terminal.Terminal.{Terminal}
 use Rattle.jv_grammar.specs.declared.terminal.Terminal.TheVariants.{Ident, Keyword}
-use Rattle.jv_grammar.specs.Marks.{paren_open, paren_close, brace_open, brace_close, semicolon, comma, dot, equals_sign, star, word_class, word_extends, word_final, word_implements, word_import, word_interface, word_package, word_super, word_void, modifiers}
+use Rattle.jv_grammar.specs.Marks.{paren_open, paren_close, brace_open, brace_close, semicolon, comma, dot, equals_sign, star, word_class, word_extends, word_final, word_implements, word_import, word_interface, word_package, word_static, word_super, word_void, modifiers}
 use Rattle.jv_grammar.specs.TypeGrammar.{starts, starts_word}
 use Rattle.jv_grammar.specs.Reader.{Reads, ◌>>=◌, rest_of, closed}
 use Rattle.jv_grammar.specs.TypeReader.{name_of, ty_of}
@@ -196,18 +196,26 @@ types_of n (suc c) xs =
 unfoldable pub package_of : List Terminal → Reads (Option (List Identifier))
 package_of xs = if starts_word word_package xs then (name_of (rest_of xs) >>= λ r. closed semicolon (Some r.0) r.1) else Ok (None, xs)
 
--- a name, and whether `. *` stands behind it; at most as many identifiers as counted
-unfoldable pub path_of : ℕ → List Terminal → Reads ImportTree
-path_of zero xs = Err xs
-path_of (suc c) xs = ident_of xs >>= λ i.
+-- a name, and whether `. *` stands behind it; at most as many identifiers as counted, of a static import where the flag says so
+unfoldable pub path_of : Bool → ℕ → List Terminal → Reads ImportTree
+path_of s zero xs = Err xs
+path_of s (suc c) xs = ident_of xs >>= λ i.
     if starts dot i.1
-    then (if starts star (rest_of i.1) then Ok (record { name = i.0 ∷ []; all = true; is_static = false }, rest_of (rest_of i.1))
-    else (path_of c (rest_of i.1) >>= λ r. Ok (record { name = i.0 ∷ r.0.name; all = r.0.all; is_static = r.0.is_static }, r.1)))
-    else Ok (record { name = i.0 ∷ []; all = false; is_static = false }, i.1)
+    then (if starts star (rest_of i.1) then Ok (record { name = i.0 ∷ []; all = true; is_static = s }, rest_of (rest_of i.1))
+    else (path_of s c (rest_of i.1) >>= λ r. Ok (record { name = i.0 ∷ r.0.name; all = r.0.all; is_static = s }, r.1)))
+    else Ok (record { name = i.0 ∷ []; all = false; is_static = s }, i.1)
+
+-- a single static import of one identifier
+abbrev pub stands_alone : ImportTree → Bool
+stands_alone i = i.is_static && (not i.all && nat_lt (length i.name) 2)
+
+-- an import behind its words
+unfoldable pub listed_of : Bool → List Terminal → Reads ImportTree
+listed_of s xs = path_of s (length xs) xs >>= λ r. if stands_alone r.0 then Err r.1 else closed semicolon r.0 r.1
 
 -- an import behind its keyword
 unfoldable pub import_of : List Terminal → Reads ImportTree
-import_of xs = path_of (length xs) xs >>= λ r. closed semicolon r.0 r.1
+import_of xs = if starts_word word_static xs then listed_of true (rest_of xs) else listed_of false xs
 
 -- imports, at most as many as counted
 unfoldable pub imports_of : ℕ → List Terminal → Reads (List ImportTree)

@@ -57,6 +57,14 @@ pub record FilesAreToldApart (a b c : Identifier) (p q : ℕ) : Type 0 where
   -- `import a.*.b;`, and an import behind a class, are nothing
   pub no_name_behind_star : IsNoFile (Keyword q word_import ∷ Ident a ∷ Punct p dot ∷ Punct p star ∷ Punct p dot ∷ Ident b ∷ Punct p semicolon ∷ [])
   pub no_import_behind : IsNoFile (in_class a p [] ++ Keyword q word_import ∷ Ident b ∷ Punct p semicolon ∷ [])
+  -- `import static a.b; import static a.*;`
+  pub static_imports : Derives
+      (Keyword q word_import ∷ Keyword q word_static ∷ Ident a ∷ Punct p dot ∷ Ident b ∷ Punct p semicolon
+      ∷ Keyword q word_import ∷ Keyword q word_static ∷ Ident a ∷ Punct p dot ∷ Punct p star ∷ Punct p semicolon ∷ [])
+      (record { package_name = None; imports = record { name = a ∷ b ∷ []; all = false; is_static = true } ∷ record { name = a ∷ []; all = true; is_static = true } ∷ []; types = [] })
+  -- `import static a;` and `import static static a.b;` are nothing
+  pub no_static_import_of_one_name : IsNoFile (Keyword q word_import ∷ Keyword q word_static ∷ Ident a ∷ Punct p semicolon ∷ [])
+  pub no_second_static : IsNoFile (Keyword q word_import ∷ Keyword q word_static ∷ Keyword q word_static ∷ Ident a ∷ Punct p dot ∷ Ident b ∷ Punct p semicolon ∷ [])
   -- `public final class a extends b implements c, b.c {}`
   pub header : Derives
       (Keyword q word_public ∷ Keyword q word_final ∷ Keyword q word_class ∷ Ident a ∷ Keyword q word_extends ∷ Ident b

@@ -20,7 +20,7 @@ use Rattle.jv_names.specs.declared.qualifier.Qualifier.{Qualifier}
 use Rattle.jv_names.specs.declared.qualifier.Qualifier.TheVariants.{InPackage, InType}
 use Rattle.jv_names.specs.declared.resolved.Resolved.{Resolved}
 use Rattle.jv_names.specs.Access.{is_same_package, has_super, some_body, member_type_by, type_accessible_by, type_accessible}
-use Rattle.jv_names.specs.Names.{look_up, ended, on_one, type_part, package_type, subpackage, further_parts, import_context, import_name}
+use Rattle.jv_names.specs.Names.{look_up, ended, on_one, type_part, package_type, subpackage, further_parts, import_context, import_name, import_rule, sought_ids, takes_packages}
 use Rattle.jv_names.specs.Reference.{refused}
 use Rattle.jv_names.specs.Replies.{Rule}
 use Rattle.jv_header.specs.Imports.{import_reference, imports_from, no_imports}
@@ -81,7 +81,7 @@ module _ (l : LayoutOf) where
   reference_asks : (file : ℕ) (i : ImportTree) → AllAsked AsksForOwn (import_reference l file i)
   unfolding import_reference
   reference_asks file i =
-      and_then-asked AsksForOwn (import_name l i.all i.name) (λ r. and_then (refused l file [] [] r.types) (λ ts. done (record { meaning = r.meaning; refused = ts }))) (name_asks i.all i.name)
+      and_then-asked AsksForOwn (import_rule l i) (λ r. and_then (refused l file [] [] r.types) (λ ts. done (record { meaning = r.meaning; refused = ts }))) (name_asks (takes_packages i) (sought_ids i))
       (λ r. and_then-asked AsksForOwn (refused l file [] [] r.types) (λ ts. done (record { meaning = r.meaning; refused = ts })) (refused_asks file [] r.types) (λ ts. tt))
 
 pub imports_ask_for_own : ImportsAskForOwn

@@ -10,13 +10,8 @@ use Rattle.jv_tree.specs.declared.name.Ident.{Ident}
 use Rattle.jv_tree.specs.declared.names.NameId.{NameId}
 use Rattle.jv_tree.specs.DeclTree.{TypeDeclTree, ImportTree, import_tree}
 use Rattle.jv_names.specs.declared.reference.Reference.{Reference}
-use Rattle.jv_header.specs.Imports.{ImportsOf, at_import, by_clashes, declares, imports_from, is_own, is_taken, last_name, with_single}
-
--- the last identifier of a name
-pub last_of : (ids : List Ident) (i : Ident) → last_name (ids ++ i ∷ []) ≡ i.id
-last_of [] i = refl
-last_of (a ∷ []) i = refl
-last_of (a ∷ b ∷ ids) i = last_of (b ∷ ids) i
+use Rattle.jv_names.specs.Written.{last_name}
+use Rattle.jv_header.specs.Imports.{ImportsOf, at_import, by_clashes, declares, imports_from, is_own, is_taken, with_single}
 
 pub on_ok_more : {X E P Q : Type 0} (r : Result X E) → (P → Q) → OnOk r P → OnOk r Q
 on_ok_more (Ok x) f h = f h

@@ -9,3 +9,4 @@ pub mod Importing
 pub mod ImportsSoFar
 pub mod Programs
 pub mod ImportQueries
+pub mod StaticSteps

@@ -1,6 +1,6 @@
 -- Headers as rules over the graph of a layout: they ask from its scopes, give scopes of it, and look at no signature.
-use Rattle.std.proofs.Common.{◌≡◌, ℕ, zero, suc, ◌+◌, ◌<◌, ◌^◌, ◌==◌, ◌&&◌, ◌||◌, ◌↔◌, Bool, true, false, cond, IsTrue, List, [], ◌∷◌, length, inl, inr, refl, sym, subst, arith}
-use Rattle.std.specs.List.{Contains, concat}
+use Rattle.std.proofs.Common.{◌≡◌, ℕ, zero, suc, ◌+◌, ◌<◌, ◌^◌, ◌==◌, ◌&&◌, ◌||◌, ◌↔◌, Bool, true, false, cond, IsTrue, List, [], ◌∷◌, get_or, length, inl, inr, refl, sym, subst, arith}
+use Rattle.std.specs.List.{All, Contains, concat}
 use Rattle.std.proofs.lemmas.Bool.{eqb-true, eq-eqb, or_left, or_right}
 use Rattle.std.proofs.lemmas.List.Elements.{All-nil, All-cons, All-weaker, All-contains, Contains-append_cases}
 use Rattle.sg_base.specs.declared.scope.Scope.{Scope}
@@ -23,7 +23,7 @@ use Rattle.jv_layout.specs.Fits.{is_root, is_package, is_file, is_type, is_membe
 use Rattle.jv_layout.specs.Folder.{LayoutOf}
 use Rattle.jv_layout.specs.Laws.{IsScopeOf}
 use Rattle.jv_layout.specs.Linked.{IsLinked}
-use Rattle.jv_layout.specs.Readers.{types_of}
+use Rattle.jv_layout.specs.Readers.{statics_of, types_of}
 use Rattle.jv_layout.specs.Scopes.{scope_at, first_file, first_type, scope_count, place_of, type_scope, signature_of_member}
 use Rattle.jv_layout.specs.Skeleton.{skeleton_of}
 use Rattle.jv_layout.proofs.SoundEdges.{skeletons_fit}
@@ -31,9 +31,10 @@ use Rattle.jv_layout.proofs.SoundLists.{from_image}
 use Rattle.jv_layout.proofs.SoundPlaces.{listed, placed, scopes_have_places}
 use Rattle.jv_layout.proofs.SoundSkeletons.{skeletons_are_sound}
 use Rattle.jv_tree.specs.declared.name.Ident.{Ident}
-use Rattle.jv_tree.specs.Numbered.{IsNumberedIdent, IsNumberedName, AreNumberedNames}
+use Rattle.jv_tree.specs.DeclTree.{ImportTree}
+use Rattle.jv_tree.specs.Numbered.{IsNumberedIdent, IsNumberedImport, IsNumberedName, AreNumberedNames}
 use Rattle.jv_names.specs.declared.kinds.TheConstants.{SIG as SIGNATURES}
-use Rattle.jv_names.specs.Bounds.{is_start, IsNameQuery, IsTypeScope, AreTypes, StaysIn}
+use Rattle.jv_names.specs.Bounds.{is_start, IsNamedIn, IsNameQuery, IsTypeScope, AreTypes, StaysIn}
 use Rattle.jv_names.specs.Kinds.{kinds, kind_at, asked_by}
 use Rattle.jv_names.proofs.Bounds.{type_starts, row_is_type}
 use Rattle.jv_header.specs.Header.{header_row}
@@ -165,14 +166,39 @@ names_numbered [] = All-nil (IsNumberedName 0)
 names_numbered (n ∷ ns) =
     All-cons (IsNumberedName (past_names (n ∷ ns))) n ns (wider_name (past_name n) (past_names (n ∷ ns)) (omega arith) n (name_numbered n)) (wider_names (past_names ns) (past_names (n ∷ ns)) (omega arith) ns (names_numbered ns))
 
+-- ---- and those of the names of imports
+
+abbrev past_imports : List ImportTree → ℕ
+past_imports [] = 0
+past_imports (i ∷ is) = past_name i.name + past_imports is
+
+-- of several files
+abbrev past_statics : List (List ImportTree) → ℕ
+past_statics [] = 0
+past_statics (is ∷ iss) = past_imports is + past_statics iss
+
+wider_imports : (a b : ℕ) → a < b + 1 → (is : List ImportTree) → All (IsNumberedImport a) is → All (IsNumberedImport b) is
+wider_imports a b h is = All-weaker (IsNumberedImport a) (IsNumberedImport b) (λ i. wider_name a b h i.name) is
+
+imports_numbered : (is : List ImportTree) → All (IsNumberedImport (past_imports is)) is
+imports_numbered [] = All-nil (IsNumberedImport 0)
+imports_numbered (i ∷ is) =
+    All-cons (IsNumberedImport (past_imports (i ∷ is))) i is (wider_name (past_name i.name) (past_imports (i ∷ is)) (omega arith) i.name (name_numbered i.name)) (wider_imports (past_imports is) (past_imports (i ∷ is)) (omega arith) is (imports_numbered is))
+
+statics_below : (iss : List (List ImportTree)) (f : ℕ) → All (IsNumberedImport (past_statics iss)) (get_or iss f [])
+statics_below [] f = All-nil (IsNumberedImport 0)
+statics_below (is ∷ iss) zero = wider_imports (past_imports is) (past_statics (is ∷ iss)) (omega arith) is (imports_numbered is)
+statics_below (is ∷ iss) (suc f) = wider_imports (past_statics iss) (past_statics (is ∷ iss)) (omega arith) (get_or iss f []) (statics_below iss f)
+
 -- ---- the program
 
 module _ (l : LayoutOf) (linked : IsLinked l) (names : List (List ℕ)) (extends implements : Scope → List (List Ident)) where
   row_stays : (c : Scope) → Contains (types_of l) c → (count : ℕ) × StaysIn l count (AreTypes l) (header_row l names c (extends c) (implements c))
   row_stays c k =
-      let count = past_names (extends c) + past_names (implements c) in (
+      let count = past_names (extends c) + past_names (implements c) + past_statics l.statics in
+      let named : IsNamedIn l count = record { linked = linked; statics = λ f. wider_imports (past_statics l.statics) count (omega arith) (statics_of l f) (statics_below l.statics f) } in (
         count,
-        header_row_stays l count names c linked (listed_type l c k) (extends c) (implements c)
+        header_row_stays l count names c named (listed_type l c k) (extends c) (implements c)
             (wider_names (past_names (extends c)) count (omega arith) (extends c) (names_numbered (extends c))) (wider_names (past_names (implements c)) count (omega arith) (implements c) (names_numbered (implements c))),
       )
 

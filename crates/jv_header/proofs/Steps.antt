@@ -13,7 +13,7 @@ use Rattle.jv_layout.specs.Folder.{LayoutOf}
 use Rattle.jv_tree.specs.DeclTree.{ImportTree}
 use Rattle.jv_names.specs.declared.reference.Reference.{Reference}
 use Rattle.jv_names.specs.declared.resolved.Resolved.{Resolved}
-use Rattle.jv_names.specs.Names.{import_name}
+use Rattle.jv_names.specs.Names.{import_rule}
 use Rattle.jv_names.specs.Reference.{refused}
 use Rattle.jv_names.proofs.References.{lets_pass, refuses, access_unknown, all_looked_at}
 use Rattle.jv_header.specs.Imports.{import_reference}
@@ -24,21 +24,21 @@ Replies = Query JavaPred → Option (Answer JavaDatum)
 -- ---- imports
 
 module _ (reply : Replies) (l : LayoutOf) (file : ℕ) (i : ImportTree) where
-  module _ (r : Resolved) (bodies : List Scope) (named : Reads reply (import_name l i.all i.name) (Ok r)) where
+  module _ (r : Resolved) (bodies : List Scope) (named : Reads reply (import_rule l i) (Ok r)) where
     pub imported : (ts : List Scope) (v : Reference) → Reads reply (refused l file bodies [] r.types) (Ok ts) → bodies ≡ [] → v ≡ record { meaning = r.meaning; refused = ts } → Reads reply (import_reference l file i) (Ok v)
     unfolding import_reference
     imported ts v g none e =
-        then_ok reply (import_name l i.all i.name) (λ r. and_then (refused l file [] [] r.types) (λ ts. done (record { meaning = r.meaning; refused = ts }))) r (Ok v) named
+        then_ok reply (import_rule l i) (λ r. and_then (refused l file [] [] r.types) (λ ts. done (record { meaning = r.meaning; refused = ts }))) r (Ok v) named
         (then_ok reply (refused l file [] [] r.types) (λ ts. done (record { meaning = r.meaning; refused = ts })) ts (Ok v) (subst (λ (bs : List Scope). Reads reply (refused l file bs [] r.types) (Ok ts)) none g) (done_reads reply (record { meaning = r.meaning; refused = ts }) v (sym e)))
 
     pub access_of_import_unknown : (e : Stop (Query JavaPred)) → Reads {U = List Scope} reply (refused l file bodies [] r.types) (Err e) → bodies ≡ [] → Reads {U = Reference} reply (import_reference l file i) (Err e)
     unfolding import_reference
     access_of_import_unknown e g none =
-        then_ok reply (import_name l i.all i.name) (λ r. and_then (refused l file [] [] r.types) (λ ts. done (record { meaning = r.meaning; refused = ts }))) r (Err e) named
+        then_ok reply (import_rule l i) (λ r. and_then (refused l file [] [] r.types) (λ ts. done (record { meaning = r.meaning; refused = ts }))) r (Err e) named
         (then_err reply (refused l file [] [] r.types) (λ ts. done (record { meaning = r.meaning; refused = ts })) e (subst (λ (bs : List Scope). Reads {U = List Scope} reply (refused l file bs [] r.types) (Err e)) none g))
 
-  pub import_unknown : (e : Stop (Query JavaPred)) → Reads {U = Resolved} reply (import_name l i.all i.name) (Err e) → Reads {U = Reference} reply (import_reference l file i) (Err e)
+  pub import_unknown : (e : Stop (Query JavaPred)) → Reads {U = Resolved} reply (import_rule l i) (Err e) → Reads {U = Reference} reply (import_reference l file i) (Err e)
   unfolding import_reference
-  import_unknown e g = then_err reply (import_name l i.all i.name) (λ r. and_then (refused l file [] [] r.types) (λ ts. done (record { meaning = r.meaning; refused = ts }))) e g
+  import_unknown e g = then_err reply (import_rule l i) (λ r. and_then (refused l file [] [] r.types) (λ ts. done (record { meaning = r.meaning; refused = ts }))) e g
 
 pub ruleset header_steps = (reading_steps, imported, access_of_import_unknown, import_unknown, lets_pass, refuses, access_unknown, all_looked_at)

@@ -1,4 +1,4 @@
--- The imports of a file: the edges that they give, and their diagnostics (JLS 7.5.1, 7.5.2).
+-- The imports of a file by what their names mean: the edges that they give, and their diagnostics (JLS 7.5).
 use Rattle.std.specs.Prelude.{ℕ, List, [], ◌∷◌, ◌++◌, Bool, true, false, not, cond, ◌==◌, ◌&&◌, ◌||◌, map, Option, None, Some}
 use Rattle.std.specs.List.{list_any}
 use Rattle.sg_base.specs.declared.scope.Scope.{Scope}
@@ -17,22 +17,16 @@ use Rattle.jv_tree.specs.DeclTree.{ImportTree, TypeDeclTree, type_decl, UnitTree
 use Rattle.jv_names.specs.declared.meaning.Meaning.{Meaning}
 use Rattle.jv_names.specs.declared.meaning.Meaning.TheVariants.{One, Nothing, Ambiguous, TooMany}
 use Rattle.jv_names.specs.declared.reference.Reference.{Reference}
-use Rattle.jv_names.specs.Names.{import_name}
+use Rattle.jv_names.specs.Names.{import_rule}
 use Rattle.jv_names.specs.Reference.{refused, access_diags}
 use Rattle.jv_names.specs.Replies.{Rule}
-use Rattle.jv_names.specs.Written.{written, start_of}
+use Rattle.jv_names.specs.Written.{last_name, written, start_of}
 
 -- ---- one import
 
 -- what the name of an import means, and which of the types that its parts mean are not accessible; an import stands in no body
 unfoldable pub import_reference : LayoutOf → ℕ → ImportTree → Rule Reference
-import_reference l file i = and_then (import_name l i.all i.name) (λ r. and_then (refused l file [] [] r.types) (λ ts. done (record { meaning = r.meaning; refused = ts })))
-
--- the last identifier of a name
-abbrev pub last_name : List Ident → NameId
-last_name [] = record { 0 = 0 }
-last_name (i ∷ []) = i.id
-last_name (i ∷ j ∷ is) = last_name (j ∷ is)
+import_reference l file i = and_then (import_rule l i) (λ r. and_then (refused l file [] [] r.types) (λ ts. done (record { meaning = r.meaning; refused = ts })))
 
 -- the simple name of a declaration
 abbrev pub declared_name : TypeDeclTree → NameId
@@ -79,9 +73,11 @@ by_clashes names file w ids s own taken = record {
 abbrev pub with_single : LayoutOf → List (List ℕ) → ℕ → List TypeDeclTree → ImportsOf → List Ident → Scope → ImportsOf
 with_single l names file ds w ids s = by_clashes names file w ids s (declares ds (last_name ids) && not (is_own l file s)) (is_taken w.singles (last_name ids) s)
 
--- an import by what it means
+-- an import by what it means; a static one gives no edge, and clashes with nothing
 abbrev pub with_meaning : LayoutOf → List (List ℕ) → ℕ → List TypeDeclTree → ImportsOf → ImportTree → Meaning → ImportsOf
-with_meaning l names file ds w i (One s) = cond i.all (record { singles = w.singles; on_demand = w.on_demand ++ s ∷ []; diags = w.diags }) (with_single l names file ds w i.name s)
+with_meaning l names file ds w i (One s) =
+    cond i.is_static (record { singles = w.singles; on_demand = w.on_demand; diags = w.diags })
+    (cond i.all (record { singles = w.singles; on_demand = w.on_demand ++ s ∷ []; diags = w.diags }) (with_single l names file ds w i.name s))
 with_meaning l names file ds w i Nothing = record { singles = w.singles; on_demand = w.on_demand; diags = w.diags ++ diagnostic file (start_of i.name) UNKNOWN_IMPORT (written names i.name ∷ []) ∷ [] }
 with_meaning l names file ds w i Ambiguous = record { singles = w.singles; on_demand = w.on_demand; diags = w.diags ++ diagnostic file (start_of i.name) UNKNOWN_IMPORT (written names i.name ∷ []) ∷ [] }
 with_meaning l names file ds w i TooMany = record { singles = w.singles; on_demand = w.on_demand; diags = w.diags ++ diagnostic file (start_of i.name) TOO_MANY_PATHS (written names i.name ∷ []) ∷ [] }

@@ -16,7 +16,7 @@ use Rattle.jv_layout.specs.Readers.{types_of}
 use Rattle.jv_layout.specs.Scopes.{signature_of_member}
 use Rattle.jv_layout.specs.Skeleton.{below, skeleton_of}
 use Rattle.jv_tree.specs.declared.name.Ident.{Ident}
-use Rattle.jv_tree.specs.DeclTree.{UnitTree}
+use Rattle.jv_tree.specs.DeclTree.{ImportTree, UnitTree}
 use Rattle.jv_names.specs.declared.kinds.TheConstants.{OWNTYPE, SUBPKG}
 use Rattle.jv_names.specs.Kinds.{asked_by}
 use Rattle.jv_names.specs.Law.{ReadsOnlyItsQueries}
@@ -24,6 +24,7 @@ use Rattle.jv_names.specs.Reference.{reference}
 use Rattle.jv_header.specs.Depends.{depends_rule}
 use Rattle.jv_header.specs.Header.{header_rule, header_row}
 use Rattle.jv_header.specs.Imports.{imports_rule}
+use Rattle.jv_header.specs.StaticImports.{statics_rule}
 
 -- ---- a rule looks at a graph by its own queries alone
 
@@ -42,6 +43,10 @@ ReferencesReadOnlyTheirQueries = (l : LayoutOf) (file : ℕ) (bodies : List Scop
 -- the rule of the imports of a file looks at a graph by its own queries alone
 abbrev pub ImportsReadOnlyTheirQueries : Type 0
 ImportsReadOnlyTheirQueries = (l : LayoutOf) (names : List (List ℕ)) (file : ℕ) (u : UnitTree) → ReadsOnlyItsQueries (imports_rule l names file u)
+
+-- the rule of what the single static imports of a file bring looks at a graph by its own queries alone
+abbrev pub StaticsReadOnlyTheirQueries : Type 0
+StaticsReadOnlyTheirQueries = (l : LayoutOf) (names : List (List ℕ)) (file : ℕ) (is : List ImportTree) → ReadsOnlyItsQueries (statics_rule l names file is)
 
 -- ---- headers are programs
 
@@ -104,6 +109,6 @@ HeadersHaveOneGreatest =
 abbrev pub AsksForOwn : Query JavaPred → Type 0
 AsksForOwn q = (q.kind ≡ OWNTYPE) ⊎ (q.kind ≡ SUBPKG)
 
--- whatever the answers, the imports of a file ask such queries alone: what they ask depends on no row that is open at the opening
+-- whatever the answers, the names of a file's imports ask such queries alone: what they ask depends on no row that is open at the opening
 abbrev pub ImportsAskForOwn : Type 0
 ImportsAskForOwn = (l : LayoutOf) (names : List (List ℕ)) (file : ℕ) (u : UnitTree) → AllAsked AsksForOwn (imports_rule l names file u)

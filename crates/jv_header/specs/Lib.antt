@@ -10,3 +10,5 @@ pub mod Bounds
 pub mod Law
 pub mod Progress
 pub mod Results
+pub mod StaticImports
+pub mod StaticsProgress

@@ -1,5 +1,5 @@
 -- What calls give that need memory, or a reply.
-use Rattle.std.specs.Prelude.{◌≡◌, Option, None, Result, MatchResult}
+use Rattle.std.specs.Prelude.{◌≡◌, None, Result, MatchResult}
 use Rattle.sg_query.specs.declared.query.Query.{Query}
 use Rattle.sg_reading.specs.declared.stop.Stop.{Stop}
 use Rattle.sg_reading.specs.declared.stop.Stop.TheVariants.{NoReply, OutOfMemory}

@@ -5,10 +5,10 @@ ghost use Rattle.std.specs.List.{list_any};
 ghost use Rattle.std.specs.HashMap.{get_by};
 ghost use Rattle.jv_tree.specs.DeclTree.{type_decl_tree};
 ghost use Rattle.jv_header.specs.Clashes.{AreBrought, AreNamesOf, is_other};
-ghost use Rattle.jv_header.specs.Imports.{is_own, is_taken, last_name};
+ghost use Rattle.jv_header.specs.Imports.{is_own, is_taken};
 
 use jv_layout::Layout;
-use jv_tree::{Ident, NameId, TypeDecl};
+use jv_tree::{NameId, TypeDecl};
 use sg_base::Scope;
 use std::alloc::{AllocError, Global};
 use std::collections::{HashMap, HashSet};
@@ -38,16 +38,6 @@ pub fn is_taken(brought: &HashMap<NameId, Scope>, name: NameId, s: Scope) -> boo
     match brought.get(&name) {
         Some(other) => *other != s,
         None => false,
-    }
-}
-
-/// The last identifier of a name.
-pub fn last_name(ids: &[Ident]) -> NameId
-    ensures { result ≡ last_name ids.now }
-{
-    match ids.split_last() {
-        Some((last, _)) => last.id,
-        None => NameId(0),
     }
 }
 

@@ -1,6 +1,7 @@
 //! What is wrong with the declaration of a type itself.
 
 ghost use Rattle.std.specs.Prelude.{◌≡◌, [], ◌∷◌, ◌++◌, IfOk, OnOk, Some};
+ghost use Rattle.jv_diag.specs.declared.codes.TheConstants.{DUPLICATE_TYPE};
 ghost use Rattle.jv_diag.specs.Plain.{diagnostic, fault_if};
 ghost use Rattle.jv_diag.specs.Text.{takes};
 ghost use Rattle.jv_layout.specs.Folder.{text_of};
@@ -117,7 +118,7 @@ fn add_duplicate(
     name: Ident,
     fault: bool,
 ) -> Result<(), AllocError>
-    ensures { OnOk result (diags.new ≡ diags.old ++ fault_if fault (diagnostic (file_of l.now ty) name.at 10 (title_of l.now names.now ty ∷ []))) }
+    ensures { OnOk result (diags.new ≡ diags.old ++ fault_if fault (diagnostic (file_of l.now ty) name.at DUPLICATE_TYPE (title_of l.now names.now ty ∷ []))) }
 {
     if fault {
         let title = l.title(alloc, names, ty)?;

@@ -6,6 +6,7 @@ ghost use Rattle.std.specs.HashMap.{get_by};
 ghost use Rattle.sg_reading.specs.Reading.{each};
 ghost use Rattle.sg_reading.specs.Stop.{Reads, IsKnown};
 ghost use Rattle.sg_reading.specs.declared.stop.Stop.TheVariants.{OutOfMemory};
+ghost use Rattle.jv_diag.specs.declared.codes.TheConstants.{IMPORT_CLASHES_WITH_IMPORT, IMPORT_CLASHES_WITH_TYPE};
 ghost use Rattle.jv_diag.specs.Plain.{diagnostic, fault_if};
 ghost use Rattle.jv_diag.specs.Text.{takes};
 ghost use Rattle.jv_tree.specs.DeclTree.{import_tree, tree_of, type_decl_tree};
@@ -14,11 +15,11 @@ ghost use Rattle.jv_names.specs.Replies.{reply_to};
 ghost use Rattle.jv_names.specs.Written.{start_of, written};
 ghost use Rattle.jv_header.specs.Clashes.{AreBrought, AreNamesOf, is_other};
 ghost use Rattle.jv_header.specs.Imports.{at_import, declares, is_own, import_reference, imports_from, imports_rule, no_imports, with_import, with_meaning, with_single};
-ghost use Rattle.jv_header.specs.ImportsProgress.{AreImportsSoFar};
+ghost use Rattle.jv_header.specs.ImportsProgress.{AreImportsSoFar, ReadsMeanings};
 ghost use Rattle.jv_header.specs.Progress.{with_found};
 ghost use Rattle.jv_header.specs.Results.{GivesOrLacksMemory};
 
-use crate::clashes::{bring, is_own, is_taken, last_name, own_names};
+use crate::clashes::{bring, is_own, is_taken, own_names};
 use crate::file_imports::FileImports;
 use crate::imports_progress::ImportsProgress;
 use crate::references::References;
@@ -26,8 +27,8 @@ use jv_diag::{DiagList, codes};
 use jv_instance::JavaPred;
 use jv_layout::{Layout, text_of};
 use jv_names::{
-    Meaning, Oracle, Reference, ScopeList, Spot, read_import, read_type_accessible, start_of,
-    written,
+    Meaning, Oracle, Reference, ScopeList, Spot, last_name, read_import, read_type_accessible,
+    start_of, written,
 };
 use jv_tree::{Ident, Import, NameId, Names, Unit};
 use sg_base::Scope;
@@ -173,7 +174,7 @@ fn add_clashes(
     hides_own: bool,
     taken: bool,
 ) -> Result<(), AllocError>
-    ensures { OnOk result (diags.new ≡ diags.old ++ (fault_if hides_own (at_import names.now file 13 ids.now) ++ fault_if taken (at_import names.now file 14 ids.now))) }
+    ensures { OnOk result (diags.new ≡ diags.old ++ (fault_if hides_own (at_import names.now file IMPORT_CLASHES_WITH_TYPE ids.now) ++ fault_if taken (at_import names.now file IMPORT_CLASHES_WITH_IMPORT ids.now))) }
 {
     if hides_own {
         add_at_import(
@@ -259,7 +260,7 @@ fn add_single(
 }
 
 /// Adds the diagnostic of a name with a text at its first token.
-fn add_written(
+pub(crate) fn add_written(
     alloc: Global,
     diags: &mut DiagList,
     names: &Names,
@@ -274,7 +275,7 @@ fn add_written(
     diags.add(alloc, file, start_of(ids), code, &[text.as_str()])
 }
 
-/// Adds an import by what it means.
+/// Adds an import by what it means. A static one gives no edge, and clashes with nothing.
 fn add_meaning(
     alloc: Global,
     l: &Layout,
@@ -295,7 +296,9 @@ fn add_meaning(
     let ids = import.name.ids.as_slice();
     match meaning {
         Meaning::One(s) => {
-            if import.all {
+            if import.is_static {
+                Ok(())
+            } else if import.all {
                 w.on_demand.push(s)
             } else {
                 add_single(alloc, l, names, file, unit, own, brought, w, ids, s)
@@ -401,6 +404,26 @@ fn found_imports(
     Ok(imports_by(alloc, l, names, file, unit, found)?)
 }
 
+/// Reads what the imports of a file mean as far as the replies tell it, or gives the first query that has no reply. It goes on with the
+/// first import that was not read so far, and the progress keeps how far it came, whatever the result. Where all were read, it takes
+/// constant time.
+pub fn read_meanings(
+    alloc: Global,
+    l: &Layout,
+    o: &Oracle,
+    file: u32,
+    unit: &Unit,
+    progress: &mut ImportsProgress,
+) -> Result<(), Stop<Query<JavaPred>>>
+    requires few { file < 2 ^ 31 }
+    requires so_far { AreImportsSoFar (reply_to o.now) l.now file (map import_tree unit.now.imports.items) progress.old }
+    ensures reads { ReadsMeanings (reply_to o.now) l.now file (map import_tree unit.now.imports.items) result progress.new }
+    ensures so_far { AreImportsSoFar (reply_to o.now) l.now file (map import_tree unit.now.imports.items) progress.new }
+{
+    let imports = unit.imports.as_slice();
+    read_import_references(alloc, l, o, file, imports, &mut progress.found)
+}
+
 /// What the imports of a file give as far as the replies tell it, or the first query that has no reply. It goes on with the first
 /// import that was not read so far, and the progress keeps how far it came, whatever the result. All calls with one progress take
 /// the time of the imports, each of which starts again alone where a reply is missing; and where all are read, each call takes that
@@ -426,7 +449,8 @@ pub fn read_imports(
 }
 
 /// What the imports of a file give (JLS 7.5.1, 7.5.2): each single import brings a type under its name, unless it clashes with
-/// another type of that name in the file or from an earlier import, and each import on demand a type or a package. Diagnostics
+/// another type of that name in the file or from an earlier import, and each import on demand a type or a package. Of a static import
+/// it is only told what its type's name means; its members are asked for where they are named, or by `read_statics`. Diagnostics
 /// stand at the first token of the name. It takes the time of the ends that its answers give, of the names of the file's
 /// top-level types, and of the texts.
 #[tactic(auto, using(crate::proofs::ImportsSoFar::imports_progress_steps))]

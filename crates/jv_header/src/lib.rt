@@ -4,8 +4,9 @@
 //! the diagnostics at the references. `specs/Header.antt` says this, `specs/Progress.antt` how far its references were read,
 //! `specs/Depends.antt` when a type depends on itself, `specs/RowProgress.antt` how far its row was read for that,
 //! `specs/Declaration.antt` what is wrong with a declaration itself, `specs/Imports.antt` which edges the imports of a file give,
-//! `specs/ImportsProgress.antt` how far these were read, `specs/Circular.antt` what is said of a header that waits. No unit is known
-//! here: what is read stands on replies alone.
+//! `specs/ImportsProgress.antt` how far these were read, `specs/StaticImports.antt` what is said of single static imports by the
+//! members that they bring, `specs/StaticsProgress.antt` how far those were read, `specs/Circular.antt` what is said of a header that
+//! waits. No unit is known here: what is read stands on replies alone.
 #![tactic(auto)]
 
 mod begun_dependence;
@@ -22,6 +23,8 @@ mod imports;
 mod imports_progress;
 pub mod laws;
 mod references;
+mod static_imports;
+mod statics_progress;
 
 pub use circular::circular_line;
 pub use declaring::declared_diags;
@@ -30,6 +33,8 @@ pub use dependence_progress::DependenceProgress;
 pub use file_imports::FileImports;
 pub use header::{Header, read_header, resolve_header};
 pub use header_progress::HeaderProgress;
-pub use imports::{read_imports, resolve_imports};
+pub use imports::{read_imports, read_meanings, resolve_imports};
 pub use imports_progress::ImportsProgress;
 pub use references::References;
+pub use static_imports::read_statics;
+pub use statics_progress::StaticsProgress;

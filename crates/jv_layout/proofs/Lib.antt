@@ -15,3 +15,4 @@ pub mod SoundLists
 pub mod SoundPlaces
 pub mod SoundEdges
 pub mod SoundSkeletons
+pub mod Statics

@@ -13,14 +13,14 @@ use Rattle.sg_state.specs.Held.{put}
 use Rattle.sg_state.proofs.Beginning.{map_twice}
 use Rattle.jv_tree.specs.declared.names.NameId.{NameId}
 use Rattle.jv_tree.specs.declared.declaration.Unit.{Unit as File}
-use Rattle.jv_tree.specs.DeclTree.{TypeDeclTree, type_decl, nested, field, method, ctor, MemberTrees, no_members, members, UnitTree, tree_of}
+use Rattle.jv_tree.specs.DeclTree.{TypeDeclTree, type_decl, nested, field, method, ctor, MemberTrees, no_members, members, ImportTree, UnitTree, tree_of}
 use Rattle.jv_layout.specs.declared.rows.Modifiers.{Modifiers}
 use Rattle.jv_layout.specs.declared.packages.Prefix.{Prefix}
 use Rattle.jv_layout.specs.declared.rows.PackageRow.{PackageRow}
 use Rattle.jv_layout.specs.declared.rows.TypeRow.{TypeRow}
 use Rattle.jv_layout.specs.declared.rows.MemberRow.{MemberRow}
 use Rattle.jv_layout.specs.declared.rows.MemberKind.TheVariants.{Method, Ctor, DefaultCtor}
-use Rattle.jv_layout.specs.Folder.{LayoutOf, layout_of, modifiers_of, no_modifiers, clause_of, prefixes, path_cmp, paths_of, package_row, file_row, decl_types, body_types, decl_count, body_count, file_types, file_count, types_from, type_count, has_ctor, default_ctor, field_row, decl_members, body_members, file_members, members_from}
+use Rattle.jv_layout.specs.Folder.{LayoutOf, layout_of, modifiers_of, no_modifiers, clause_of, prefixes, path_cmp, paths_of, package_row, file_row, decl_types, body_types, decl_count, body_count, file_types, file_count, types_from, type_count, has_ctor, default_ctor, field_row, decl_members, body_members, file_members, members_from, statics_in}
 use Rattle.jv_layout.specs.Scopes.{scope_count}
 use Rattle.jv_layout.specs.Sizes.{decl_names, body_names, unit_names, IsFolder}
 use Rattle.jv_layout.specs.Linked.{IsBelow, IsLinked}
@@ -242,21 +242,23 @@ module _ (names : List (List ℕ)) (us : List UnitTree) (folder : IsFolder us) w
       }
 
 -- the layout that its rows give, once each row is known
-layout_same : (l : LayoutOf) (p : List PackageRow) (f : List (Option ℕ)) (t : List TypeRow) (m : List MemberRow) → p ≡ l.packages → f ≡ l.files → t ≡ l.types → m ≡ l.members → layout_by p f t m ≡ layout_by l.packages l.files l.types l.members
-layout_same l p f t m a b c d =
-    ap (λ (z : List PackageRow). layout_by z f t m) a ∙ (ap (λ (z : List (Option ℕ)). layout_by l.packages z t m) b
-    ∙ (ap (λ (z : List TypeRow). layout_by l.packages l.files z m) c ∙ ap (λ (z : List MemberRow). layout_by l.packages l.files l.types z) d))
+layout_same : (l : LayoutOf) (p : List PackageRow) (f : List (Option ℕ)) (t : List TypeRow) (m : List MemberRow) (s : List (List ImportTree)) → p ≡ l.packages → f ≡ l.files → t ≡ l.types → m ≡ l.members → s ≡ l.statics
+    → layout_by p f t m s ≡ layout_by l.packages l.files l.types l.members l.statics
+layout_same l p f t m s a b c d e =
+    ap (λ (z : List PackageRow). layout_by z f t m s) a ∙ (ap (λ (z : List (Option ℕ)). layout_by l.packages z t m s) b
+    ∙ (ap (λ (z : List TypeRow). layout_by l.packages l.files z m s) c ∙ (ap (λ (z : List MemberRow). layout_by l.packages l.files l.types z s) d
+    ∙ ap (λ (z : List (List ImportTree)). layout_by l.packages l.files l.types l.members z) e)))
 
 module _ (names : List (List ℕ)) (files : List File) (qs rs ps : List Prefix) where
   abbrev trees : List UnitTree
   trees = map tree_of files
 
-  pub rows_same : (p : List PackageRow) (f : List (Option ℕ)) (t : List TypeRow) (m : List MemberRow) → qs ≡ ps → rs ≡ ps → map (path_at trees) ps ≡ paths_of names trees
+  pub rows_same : (p : List PackageRow) (f : List (Option ℕ)) (t : List TypeRow) (m : List MemberRow) (s : List (List ImportTree)) → qs ≡ ps → rs ≡ ps → map (path_at trees) ps ≡ paths_of names trees
       → p ≡ map (λ q. package_row names (map (path_at trees) qs) (path_at trees q)) qs → f ≡ map (λ u. file_row names (map (path_at trees) rs) (tree_of u)) files
-      → t ≡ types_from 0 0 trees → m ≡ members_from 0 trees → layout_by p f t m ≡ layout_of names trees
-  rows_same p f t m a b e ep ef et em =
+      → t ≡ types_from 0 0 trees → m ≡ members_from 0 trees → s ≡ map statics_in trees → layout_by p f t m s ≡ layout_of names trees
+  rows_same p f t m s a b e ep ef et em es =
       let one : map (path_at trees) qs ≡ paths_of names trees = ap (map (path_at trees)) a ∙ e in
       let two : map (path_at trees) rs ≡ paths_of names trees = ap (map (path_at trees)) b ∙ e in
-      layout_same (layout_of names trees) p f t m
+      layout_same (layout_of names trees) p f t m s
       (ep ∙ (sym (map_twice (path_at trees) (package_row names (map (path_at trees) qs)) qs) ∙ ap (λ (z : List (List ℕ)). map (package_row names z) z) one))
-      (ef ∙ (sym (map_twice tree_of (file_row names (map (path_at trees) rs)) files) ∙ ap (λ (z : List (List ℕ)). map (file_row names z) trees) two)) et em
+      (ef ∙ (sym (map_twice tree_of (file_row names (map (path_at trees) rs)) files) ∙ ap (λ (z : List (List ℕ)). map (file_row names z) trees) two)) et em es

@@ -44,6 +44,7 @@ one_class = record {
   files = None ∷ [];
   types = class_in 0 None 0 7 ∷ [];
   members = member_of 0 DefaultCtor 7 ∷ member_of 0 Field 9 ∷ [];
+  statics = [] ∷ [];
 }
 
 -- its scopes are the root, the unnamed package, the file, A, its constructor and x, and the signatures of these two
@@ -75,6 +76,7 @@ two_files = record {
   files = Some 1 ∷ None ∷ [];
   types = class_in 0 None 0 3 ∷ class_in 0 (Some 0) 0 4 ∷ class_in 1 None 2 5 ∷ class_in 1 None 3 5 ∷ [];
   members = member_of 0 DefaultCtor 3 ∷ member_of 1 Method 6 ∷ member_of 1 Method 6 ∷ member_of 2 DefaultCtor 5 ∷ member_of 3 DefaultCtor 5 ∷ [];
+  statics = [] ∷ [] ∷ [];
 }
 
 -- the second class 5 gets no edge from its package and its file, and the second method 6 none from its class

@@ -1,6 +1,6 @@
 -- What the trees of a folder declare: its packages, files, types and members, in the order of their scopes.
 use Rattle.std.specs.Prelude.{ℕ, ◌+◌, ◌-◌, ◌==◌, ◌||◌, nat_lt, Bool, true, false, List, [], ◌∷◌, ◌++◌, length, map, take, fold, Option, None, Some, if◌then◌else◌}
-use Rattle.std.specs.List.{list_any, flat_map, position_from, range_with_len, slice_index_or}
+use Rattle.std.specs.List.{filter, list_any, flat_map, position_from, range_with_len, slice_index_or}
 use Rattle.std.specs.Ordering.{is_eq, nat_cmp, on}
 use Rattle.std.specs.Cmp.Lexicographic.{slice_cmp}
 use Rattle.std.specs.declared.cmp.Ordering.{Ordering}
@@ -8,19 +8,21 @@ use Rattle.sg_state.specs.Held.{put}
 use Rattle.jv_tree.specs.declared.name.Ident.{Ident}
 use Rattle.jv_tree.specs.declared.names.NameId.{NameId}
 use Rattle.jv_tree.specs.StmtTree.{VarTree}
-use Rattle.jv_tree.specs.DeclTree.{TypeDeclTree, type_decl, nested, field, method, ctor, MemberTrees, no_members, members, UnitTree}
+use Rattle.jv_tree.specs.DeclTree.{TypeDeclTree, type_decl, nested, field, method, ctor, MemberTrees, no_members, members, ImportTree, UnitTree}
 use Rattle.jv_layout.specs.declared.rows.Modifiers.{Modifiers}
 use Rattle.jv_layout.specs.declared.rows.PackageRow.{PackageRow}
 use Rattle.jv_layout.specs.declared.rows.TypeRow.{TypeRow}
 use Rattle.jv_layout.specs.declared.rows.MemberRow.{MemberRow}
 use Rattle.jv_layout.specs.declared.rows.MemberKind.TheVariants.{Field, Method, Ctor, DefaultCtor}
 
--- what contracts see of a layout: its packages, the package of each file (none where it is the unnamed one), its types and its members
+-- what contracts see of a layout: its packages, the package of each file (none where it is the unnamed one), its types, its members, and the static
+-- imports of each file
 pub record LayoutOf : Type 0 where
   pub packages : List PackageRow
   pub files : List (Option ℕ)
   pub types : List TypeRow
   pub members : List MemberRow
+  pub statics : List (List ImportTree)
 
 -- ---- modifiers
 
@@ -197,6 +199,12 @@ abbrev pub members_from : ℕ → List UnitTree → List MemberRow
 members_from n [] = []
 members_from n (u ∷ us) = file_members n u.types ++ members_from (n + file_count u.types) us
 
+-- ---- static imports (JLS 7.5.3, 7.5.4)
+
+-- the static imports of a file, as the text has them
+abbrev pub statics_in : UnitTree → List ImportTree
+statics_in u = filter (λ i. i.is_static) u.imports
+
 -- ---- the whole
 
 -- the layout of files, of which the first two are the prelude's
@@ -206,4 +214,5 @@ layout_of names units = record {
   files = map (file_row names (paths_of names units)) units;
   types = types_from 0 0 units;
   members = members_from 0 units;
+  statics = map statics_in units;
 }

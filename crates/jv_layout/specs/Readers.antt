@@ -5,6 +5,7 @@ use Rattle.std.specs.Option.{option_map}
 use Rattle.sg_base.specs.declared.scope.Scope.{Scope}
 use Rattle.jv_instance.specs.declared.access.Access.{Access}
 use Rattle.jv_instance.specs.declared.access.Access.TheVariants.{Public, Protected, Package as PackageAccess, Private}
+use Rattle.jv_tree.specs.DeclTree.{ImportTree}
 use Rattle.jv_layout.specs.declared.place.Place.{Place}
 use Rattle.jv_layout.specs.declared.place.Place.TheVariants.{Outside, Root, Unnamed, Package, File, Ty, Member, Signature}
 use Rattle.jv_layout.specs.declared.rows.Modifiers.{Modifiers}
@@ -292,6 +293,10 @@ signature_at l s (Signature m) = s
 -- the scope of a member's signature; the scope itself elsewhere
 abbrev pub signature_scope : LayoutOf → Scope → Scope
 signature_scope l s = signature_at l s (place_of l s)
+
+-- the static imports of the file with this number; none where there is no such file
+abbrev pub statics_of : LayoutOf → ℕ → List ImportTree
+statics_of l f = slice_index_or l.statics f []
 
 -- all types
 abbrev pub types_of : LayoutOf → List Scope

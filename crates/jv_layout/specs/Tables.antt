@@ -1,5 +1,6 @@
 -- What the tables of a layout keep to.
 use Rattle.std.specs.Prelude.{◌≡◌, ◌<◌, ◌^◌, List, length, map}
+use Rattle.jv_tree.specs.DeclTree.{import_tree}
 use Rattle.jv_layout.specs.declared.tables.Layout.TheInside.{Inside}
 use Rattle.jv_layout.specs.Folder.{LayoutOf}
 use Rattle.sg_base.specs.declared.scope.Scope.{Scope}
@@ -10,7 +11,13 @@ use Rattle.jv_layout.specs.Skeleton.{below}
 
 -- what contracts see of the tables
 abbrev pub layout_in : Inside → LayoutOf
-layout_in a = record { packages = a.packages.items; files = a.files.items; types = a.types.items; members = a.members.items }
+layout_in a = record {
+  packages = a.packages.items;
+  files = a.files.items;
+  types = a.types.items;
+  members = a.members.items;
+  statics = map (λ v. map import_tree v.items) a.statics.items;
+}
 
 -- the scopes of the members of each type
 abbrev pub members_by_type : LayoutOf → List (List Scope)

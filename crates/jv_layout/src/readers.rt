@@ -1,7 +1,8 @@
 //! What a layout says of its scopes.
 
 ghost use Rattle.std.specs.Prelude.{◌≡◌, ◌<◌, ◌^◌, ◌&&◌, length, map, option_map};
-ghost use Rattle.jv_layout.specs.Readers.{type_at, owner_of, file_package, is_interface_at, lies_in_interface, written_access, type_access, member_at, member_access_by, access_of, is_method, is_static_type, is_static_of, is_final_of, is_interface_method_of, is_abstract_of, is_default_of, is_interface_of, file_of, owner_scope, package_of, top_of, signature_scope, members_of, members_of_type, types_of, object_scope, string_scope};
+ghost use Rattle.jv_tree.specs.DeclTree.{import_tree};
+ghost use Rattle.jv_layout.specs.Readers.{type_at, owner_of, file_package, is_interface_at, lies_in_interface, written_access, type_access, member_at, member_access_by, access_of, is_method, is_static_type, is_static_of, is_final_of, is_interface_method_of, is_abstract_of, is_default_of, is_interface_of, file_of, owner_scope, package_of, top_of, signature_scope, members_of, members_of_type, statics_of, types_of, object_scope, string_scope};
 ghost use Rattle.jv_layout.specs.Duplicates.{simple_name, is_named};
 ghost use Rattle.jv_layout.specs.Scopes.{root_scope, file_scope, type_scope, member_scope, scope_count};
 
@@ -9,7 +10,7 @@ use crate::place::Place;
 use crate::rows::{MemberKind, Modifiers, TypeRow};
 use crate::tables::{Layout, scope_at};
 use jv_instance::Access;
-use jv_tree::NameId;
+use jv_tree::{Import, NameId};
 use sg_base::Scope;
 
 /// The access that is written; the strongest counts.
@@ -62,6 +63,17 @@ impl Layout {
         ensures { result.now ≡ types_of self.now }
     {
         self.type_scopes.as_slice()
+    }
+
+    /// The static imports of a file, as the text has them (JLS 7.5.3, 7.5.4); none where there is no such file. It takes no
+    /// memory.
+    pub fn static_imports(&self, file: u32) -> &[Import]
+        ensures { map import_tree result.now ≡ statics_of self.now file }
+    {
+        match self.statics.get(file as usize) {
+            Some(imports) => imports.as_slice(),
+            None => &[],
+        }
     }
 
     /// Whether a type is an interface.

@@ -8,13 +8,13 @@ ghost use Rattle.jv_layout.specs.Scopes.{place_of, first_file, first_type, first
 use crate::place::Place;
 use crate::rows::{MemberKind, MemberRow, Modifiers, PackageRow, TypeRow};
 use jv_instance::labels;
-use jv_tree::NameId;
+use jv_tree::{Import, NameId};
 use sg_base::{Label, Scope};
 use std::alloc::{AllocError, Global};
 use std::marker::Model;
 
 /// The scopes of a folder: what each is and where it stands. Contracts see the rows of packages, files, types and
-/// members (`LayoutOf`), which are those that the trees of the files declare.
+/// members and the static imports of the files (`LayoutOf`), which are those that the trees of the files have.
 ///
 /// Scopes have the unit `u32::MAX` and serials in this order: the root, the unnamed package, packages by dotted name,
 /// files, types, members (fields, methods and constructors), and one signature scope for each member. Types and members
@@ -26,6 +26,7 @@ pub struct Layout {
     pub(crate) files: Vec<Option<u32>>,
     pub(crate) types: Vec<TypeRow>,
     pub(crate) members: Vec<MemberRow>,
+    pub(crate) statics: Vec<Vec<Import>>,
     pub(crate) type_scopes: Vec<Scope>,
     pub(crate) member_scopes: Vec<Vec<Scope>>,
 }

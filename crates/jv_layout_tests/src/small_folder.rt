@@ -2,10 +2,10 @@
 
 use jv_layout::words::{ABSTRACT, DEFAULT, STATIC};
 use jv_tree::nodes::{
-    class_or_interface, constructor, constructor_member, field_member, method, method_member,
-    nested, type_ref, unit, variable,
+    class_or_interface, constructor, constructor_member, field_member, import, method,
+    method_member, nested, type_ref, unit, variable,
 };
-use jv_tree::{Base, Ident, Member, Mods, Name, NameId, Names, TypeDecl, Unit};
+use jv_tree::{Base, Ident, Import, Member, Mods, Name, NameId, Names, TypeDecl, Unit};
 use sg_base::Scope;
 use std::alloc::Global;
 use std::test::Fail;
@@ -239,6 +239,38 @@ pub fn files_of_methods(alloc: Global) -> Result<Vec<Unit>, Fail> {
     types.push(type_of(alloc, I, true, methods_with(alloc, &OF_INTERFACE)?)?)?;
     types.push(type_of(alloc, A, false, methods_with(alloc, &OF_CLASS)?)?)?;
     Ok(vec![in alloc; file_in(alloc, &[P], types)?]?)
+}
+
+fn name_of(alloc: Global, numbers: &[u32]) -> Result<Name, Fail> {
+    let mut ids = Vec::new(alloc);
+    for number in numbers {
+        ids.push(ident(*number))?;
+    }
+    Ok(Name { ids })
+}
+
+/// Imports, each by its name, whether it is on demand, and whether it is static.
+const IMPORTS: [(&[u32], bool, bool); 4] = [
+    (&[P, A], false, false),
+    (&[P, A, X], false, true),
+    (&[P], true, false),
+    (&[P, A], true, true),
+];
+
+fn imports_of_file(alloc: Global) -> Result<Vec<Import>, Fail> {
+    let mut imports = Vec::new(alloc);
+    for (numbers, all, is_static) in IMPORTS {
+        imports.push(import(name_of(alloc, numbers)?, all, is_static))?;
+    }
+    Ok(imports)
+}
+
+/// A file without types and imports, and the file `import p.A; import static p.A.x; import p.*; import static p.A.*;`.
+pub fn files_of_imports(alloc: Global) -> Result<Vec<Unit>, Fail> {
+    let mut files = Vec::new(alloc);
+    files.push(unit(None, Vec::new(alloc), Vec::new(alloc)))?;
+    files.push(unit(None, imports_of_file(alloc)?, Vec::new(alloc)))?;
+    Ok(files)
 }
 
 /// The scope with a serial.

@@ -5,11 +5,11 @@
 //! their signatures from 28 on.
 
 use crate::small_folder::{
-    files_of_methods, files_of_packages, scope_at, small_files, small_names,
+    files_of_imports, files_of_methods, files_of_packages, scope_at, small_files, small_names,
 };
 use jv_instance::{JavaDatum, Ty, TypeBase, labels};
 use jv_layout::{Declarations, Layout, LayoutFault, Place, is_folder, layout};
-use jv_tree::{NameId, Names, Unit};
+use jv_tree::{Import, NameId, Names, Unit};
 use sg_base::Scope;
 use sg_state::Opening;
 use std::alloc::Global;
@@ -531,5 +531,43 @@ const METHOD_LETTERS: &str = "ai|si|di|ai|si|di|||a|s|";
 fn methods_of_interfaces_are_default_static_or_abstract(rt: HostRuntime) -> Result<(), Fail> {
     let letters = letters_told(rt.alloc())?;
     assert_eq!(rt; letters.as_str(), METHOD_LETTERS);
+    Ok(())
+}
+
+/// An import by the numbers of its name, with a star where it is on demand.
+fn put_import(text: &mut String, import: &Import) -> Result<(), Fail> {
+    for ident in &import.name.ids {
+        write!(text, "{}.", ident.id.0)?;
+    }
+    write!(text, "{}", if import.all { "* " } else { " " })?;
+    Ok(())
+}
+
+/// The static imports of a file.
+fn static_imports_told(alloc: Global, layout: &Layout, file: u32) -> Result<String, Fail> {
+    let mut text = String::new(alloc);
+    for import in layout.static_imports(file) {
+        put_import(&mut text, import)?;
+    }
+    Ok(text)
+}
+
+/// The static imports of each file, and of one that is none.
+const STATIC_IMPORTS: [(u32, &str); 3] = [(0, ""), (1, "4.5.7. 4.5.* "), (2, "")];
+
+/// The first of the files that have other static imports.
+fn wrong_imports(alloc: Global, layout: &Layout) -> Result<Option<u32>, Fail> {
+    for (file, wanted) in STATIC_IMPORTS {
+        if static_imports_told(alloc, layout, file)?.as_str() != wanted {
+            return Ok(Some(file));
+        }
+    }
+    Ok(None)
+}
+
+#[test]
+fn files_keep_their_static_imports(rt: HostRuntime) -> Result<(), Fail> {
+    let layout = layout_of(rt.alloc(), files_of_imports(rt.alloc())?)?;
+    assert_eq!(rt; wrong_imports(rt.alloc(), &layout)?, None);
     Ok(())
 }

@@ -5,7 +5,6 @@ use Rattle.std.proofs.lemmas.List.Elements.{All-nil, All-cons, All-head, All-tai
 use Rattle.sg_base.specs.declared.scope.Scope.{Scope}
 use Rattle.sg_reading.specs.Reading.{done, and_then, each}
 use Rattle.jv_layout.specs.Folder.{LayoutOf, has_ctor}
-use Rattle.jv_layout.specs.Linked.{IsLinked}
 use Rattle.jv_layout.specs.Readers.{file_of}
 use Rattle.jv_tree.specs.declared.names.NameId.{NameId}
 use Rattle.jv_tree.specs.DeclTree.{ParamTree, type_decl, nested, field, method, ctor, MemberTrees, no_members, members}
@@ -14,7 +13,7 @@ use Rattle.jv_tree.specs.StmtTree.{VarTree}
 use Rattle.jv_tree.specs.TypeTree.{TypeTree}
 use Rattle.jv_names.specs.declared.written_type.WrittenType.{WrittenType}
 use Rattle.jv_names.specs.Bodies.{member_bodies}
-use Rattle.jv_names.specs.Bounds.{IsTypeScope, IsTyIn, IsWrittenIn, StaysIn}
+use Rattle.jv_names.specs.Bounds.{IsNamedIn, IsTypeScope, IsTyIn, IsWrittenIn, StaysIn}
 use Rattle.jv_names.specs.Replies.{Rule}
 use Rattle.jv_names.specs.WrittenTypes.{written_type}
 use Rattle.jv_names.proofs.Bounds.{bodies_are_types, file_is_one, then_stays, done_stays, written_type_stays}
@@ -57,9 +56,9 @@ module _ (l : LayoutOf) (count : ℕ) where
   abbrev pub IsIn : Signature → Type 0
   IsIn s = IsSignatureIn l s.datum
 
-  module _ (names : List (List ℕ)) (c : Scope) (linked : IsLinked l) (type : IsTypeScope l c) where
+  module _ (names : List (List ℕ)) (c : Scope) (named : IsNamedIn l count) (type : IsTypeScope l c) where
     written_stays : (t : TypeTree) → IsNumberedType count t → StaysIn l count (IsWrittenIn l) (written_type l names (file_of l c) (member_bodies l c) t)
-    written_stays t numbered = written_type_stays l count names (file_of l c) (member_bodies l c) (file_is_one l linked c type) (bodies_are_types l c linked type).1 t numbered
+    written_stays t numbered = written_type_stays l count named names (file_of l c) (member_bodies l c) (file_is_one l named.linked c type) (bodies_are_types l c named.linked type).1 t numbered
 
     params_stay : (ps : List ParamTree) → All (IsNumberedParam count) ps → StaysIn l count (All (IsWrittenIn l)) (param_types l names (file_of l c) (member_bodies l c) ps)
     params_stay ps numbered = each_stays (IsNumberedParam count) (IsWrittenIn l) (param_type l names (file_of l c) (member_bodies l c)) (λ p h. written_stays p.ty h.0) ps numbered
@@ -80,7 +79,7 @@ module _ (l : LayoutOf) (count : ℕ) where
 -- ---- as laws
 
 pub signatures_stay_in : SignaturesStayIn
-signatures_stay_in l count names c class m linked type numbered = signature_stays l count names c linked type class m numbered
+signatures_stay_in l count names c class m named type numbered = signature_stays l count names c named type class m numbered
 
 pub own_members_are_numbered : OwnMembersAreNumbered
 own_members_are_numbered count (type_decl name ms i es is xs) h =

@@ -26,7 +26,7 @@ use Rattle.jv_names.specs.declared.ends.Ends.TheVariants.{Scopes, TooMany as Too
 use Rattle.jv_names.specs.declared.kinds.TheConstants.{METHODS, ABOVE}
 use Rattle.jv_names.specs.Access.{member_accessible}
 use Rattle.jv_names.specs.Bodies.{member_bodies}
-use Rattle.jv_names.specs.Bounds.{IsNameQuery, IsListed, IsTypeScope, IsTyIn, IsReadIn, IsMemberScope, EndsOnly}
+use Rattle.jv_names.specs.Bounds.{IsNamedIn, IsNameQuery, IsListed, IsTypeScope, IsTyIn, IsReadIn, IsMemberScope, EndsOnly}
 use Rattle.jv_names.specs.Chosen.{fits_all}
 use Rattle.jv_names.specs.Instances.{instance_bodies, has_enclosing}
 use Rattle.jv_names.specs.Members.{find_ends, is_method_named, members_among, object_methods}
@@ -216,20 +216,20 @@ module _ (l : LayoutOf) (count : ℕ) where
 
   -- ---- constructors
 
-  module _ (names : List (List ℕ)) (c : Scope) (linked : IsLinked l) (is : IsTypeScope l c) where
+  module _ (names : List (List ℕ)) (c : Scope) (named : IsNamedIn l count) (is : IsTypeScope l c) where
     can_call_asks : (k : Option Scope) → IfSome k (IsListed l) → AllAsked (Asked l count) (can_call l c k)
     can_call_asks None h = tt
     can_call_asks (Some k) h =
         and_then-asked (Asked l count) (signature_of l k) (λ s. cond (takes_some s) (done false) (member_accessible l (file_of l c) (member_bodies l c) k None)) (signature_asks l count k h)
         (λ s. cond_asked l count (takes_some s) (done false) (member_accessible l (file_of l c) (member_bodies l c) k None) tt
-        (AllAsked-more (IsNameQuery l count) (Asked l count) (member_accessible l (file_of l c) (member_bodies l c) k None) (name_asked l count) (member_accessible_stays l count (file_of l c) (member_bodies l c) k None (bodies_are_types l c linked is).1 tt).asks))
+        (AllAsked-more (IsNameQuery l count) (Asked l count) (member_accessible l (file_of l c) (member_bodies l c) k None) (name_asked l count) (member_accessible_stays l count (file_of l c) (member_bodies l c) k None (bodies_are_types l c named.linked is).1 tt).asks))
 
     call_asks : (at : ℕ) (s : Scope) → IsTypeScope l s → AllAsked (Asked l count) (call_diags l names c at s)
     unfolding call_diags
     call_asks at s h =
         and_then-asked_where (Asked l count) (λ (o : Option Scope). IfSome o (IsListed l)) (ctor_of l s) _ (ctor_asks l count s (type_is_listed l s h)) (ctor_listed l s)
         (λ k found. and_then-asked (Asked l count) (can_call l c k) _ (can_call_asks k found)
-        (λ called. and_then-asked (Asked l count) (has_enclosing l (instance_bodies l c) s (owner_scope l s)) _ (enclosing_asks l count (instance_bodies l c) s (owner_scope l s) (instance_bodies_are_types l c linked is)) (λ enclosed. tt)))
+        (λ called. and_then-asked (Asked l count) (has_enclosing l (instance_bodies l c) s (owner_scope l s)) _ (enclosing_asks l count (instance_bodies l c) s (owner_scope l s) (instance_bodies_are_types l c named.linked is)) (λ enclosed. tt)))
 
     class_asks : (b : Bool) (at : ℕ) (s : Scope) → IsTypeScope l s → AllAsked (Asked l count) (call_of l names c at (cond b None (Some s)))
     class_asks true at s h = tt
@@ -247,7 +247,7 @@ module _ (l : LayoutOf) (count : ℕ) where
       call_at_asks None = tt
       call_at_asks (Some at) =
           cond_asked l count (is_scope c (object_scope l)) (done []) (and_then (superclass l c extends) (λ s. call_of l names c at (only_class l s))) tt
-          (and_then-asked_where (Asked l count) (IsTypeScope l) (superclass l c extends) (λ s. call_of l names c at (only_class l s)) (superclass_asks l count c linked is extends numbered) (superclass_found l count c linked is extends numbered)
+          (and_then-asked_where (Asked l count) (IsTypeScope l) (superclass l c extends) (λ s. call_of l names c at (only_class l s)) (superclass_asks l count c named is extends numbered) (superclass_found l count c named is extends numbered)
           (λ s h. class_asks (is_interface_of l s) at s h))
 
       pub ctor_rule_asks : (m : OwnMember) → AllAsked (Asked l count) (ctor_rule l names c extends m)
@@ -272,12 +272,12 @@ module _ (l : LayoutOf) (count : ℕ) where
           and_then-asked_where (Asked l count) (EndsOnly (IsMemberScope l METH)) (find_ends l Methods (for_any METHODS c)) _ (all_methods_ask c is) (methods_found l (for_any METHODS c))
           (λ ends found. and_then-asked (Asked l count) (each (member_overrides l names c type) ps) _
           (each-asked (Asked l count) (member_overrides l names c type) ps (λ p k. let q = All-contains IsPlacedIn ps p h k in overrides_ask type p.0 p.1 q.0 q.1))
-          (λ overs. and_then-asked (Asked l count) (all_groups l names c type ends) _ (groups_ask names c type linked ends found)
+          (λ overs. and_then-asked (Asked l count) (all_groups l names c type ends) _ (groups_ask names c type named.linked ends found)
           (λ meets. and_then-asked (Asked l count) (each (member_calls l names c extends) ps) _ (each-asked (Asked l count) (member_calls l names c extends) ps (λ p k. ctor_rule_asks p.1)) (λ calls. tt))))
 
 -- ---- as a law
 
 pub members_ask_in_layout : MembersAskInLayout
-members_ask_in_layout l count names c (type_decl name ms i es is xs) linked type h =
-    check_asks l count names c linked type es h.1 name (placed (members_of l c) (own_members (type_decl name ms i es is xs)))
-    (placed_in l count names c linked type es h.1 (members_of l c) (own_members (type_decl name ms i es is xs)) (members_listed l c) (own_members_are_numbered count (type_decl name ms i es is xs) h))
+members_ask_in_layout l count names c (type_decl name ms i es is xs) named type h =
+    check_asks l count names c named type es h.1 name (placed (members_of l c) (own_members (type_decl name ms i es is xs)))
+    (placed_in l count names c named type es h.1 (members_of l c) (own_members (type_decl name ms i es is xs)) (members_listed l c) (own_members_are_numbered count (type_decl name ms i es is xs) h))

@@ -5,11 +5,10 @@ use Rattle.sg_reading.specs.Reading.{AllAsked}
 use Rattle.jv_instance.specs.declared.datum.JavaDatum.{JavaDatum}
 use Rattle.jv_instance.specs.declared.datum.JavaDatum.TheVariants.{Package, TypeName, Member, Signature as SignatureDatum}
 use Rattle.jv_layout.specs.Folder.{LayoutOf}
-use Rattle.jv_layout.specs.Linked.{IsLinked}
 use Rattle.jv_tree.specs.declared.names.NameId.{NameId}
 use Rattle.jv_tree.specs.DeclTree.{TypeDeclTree}
 use Rattle.jv_tree.specs.Numbered.{IsNumberedIdent, IsNumberedType, IsNumberedVar, IsNumberedMethod, IsNumberedCtor, IsNumberedDecl}
-use Rattle.jv_names.specs.Bounds.{IsTypeScope, IsTyIn, IsLayoutQuery, StaysIn}
+use Rattle.jv_names.specs.Bounds.{IsNamedIn, IsTypeScope, IsTyIn, IsLayoutQuery, StaysIn}
 use Rattle.jv_member.specs.declared.signature.Signature.{Signature}
 use Rattle.jv_member.specs.Members.{members_rule}
 use Rattle.jv_member.specs.Own.{OwnMember, own_field, own_method, own_ctor, default_ctor, own_members}
@@ -32,7 +31,7 @@ IsSignatureIn l (Member n) = ⊥
 -- the signature of a member of a type
 abbrev pub SignaturesStayIn : Type 0
 SignaturesStayIn =
-    (l : LayoutOf) (count : ℕ) (names : List (List ℕ)) (c : Scope) (class : NameId) (m : OwnMember) → IsLinked l → IsTypeScope l c → IsNumberedOwn count m
+    (l : LayoutOf) (count : ℕ) (names : List (List ℕ)) (c : Scope) (class : NameId) (m : OwnMember) → IsNamedIn l count → IsTypeScope l c → IsNumberedOwn count m
     → StaysIn l count (λ (s : Signature). IsSignatureIn l s.datum) (signature_rule l names c class m)
 
 -- the members of a numbered declaration are numbered
@@ -42,5 +41,5 @@ OwnMembersAreNumbered = (count : ℕ) (d : TypeDeclTree) → IsNumberedDecl coun
 -- all that is checked of a type's members asks such queries, whatever the answers
 abbrev pub MembersAskInLayout : Type 0
 MembersAskInLayout =
-    (l : LayoutOf) (count : ℕ) (names : List (List ℕ)) (c : Scope) (d : TypeDeclTree) → IsLinked l → IsTypeScope l c → IsNumberedDecl count d
+    (l : LayoutOf) (count : ℕ) (names : List (List ℕ)) (c : Scope) (d : TypeDeclTree) → IsNamedIn l count → IsTypeScope l c → IsNumberedDecl count d
     → AllAsked (IsLayoutQuery l count) (members_rule l names c d)

@@ -1,9 +1,10 @@
 -- What rules of names ask and find, whatever the answers.
 use Rattle.std.proofs.Common.{◌≡◌, ℕ, zero, suc, ◌<◌, ◌&&◌, ◌||◌, Bool, true, false, cond, IsTrue, IfSome, List, [], ◌∷◌, ◌++◌, Option, Some, None, length, fold, is_some, inl, inr, refl, sym, subst, arith}
+use Rattle.std.specs.Prelude.{not}
 use Rattle.std.specs.List.{All, Contains, filter, list_all}
 use Rattle.std.specs.Option.{option_map}
 use Rattle.std.proofs.lemmas.Bool.{and_parts}
-use Rattle.std.proofs.lemmas.List.Elements.{All-nil, All-cons, All-head, All-tail, All-push, All-weaker, All-contains, All-contains_itself}
+use Rattle.std.proofs.lemmas.List.Elements.{All-nil, All-cons, All-head, All-tail, All-append, All-filter, All-push, All-weaker, All-contains, All-contains_itself}
 use Rattle.sg_base.specs.declared.scope.Scope.{Scope}
 use Rattle.sg_base.specs.Scope.{is_scope, scope_cmp, scope_total}
 use Rattle.sg_base.proofs.Scopes.{equal_scope}
@@ -19,7 +20,7 @@ use Rattle.sg_reading.specs.Reading.{done, AllAsked, and_then}
 use Rattle.sg_reading.proofs.Asking.{any_ends, AllEnds-more, and_then-asked_where, and_then-ends}
 use Rattle.jv_instance.specs.declared.access.Access.{Access}
 use Rattle.jv_instance.specs.declared.access.Access.TheVariants.{Public, Protected, Package as PackageAccess, Private}
-use Rattle.jv_instance.specs.declared.labels.TheConstants.{FIELD, METH}
+use Rattle.jv_instance.specs.declared.labels.TheConstants.{FIELD, METH, SELF, SIMP, PKGOF, ODI}
 use Rattle.jv_instance.specs.declared.type_base.TypeBase.TheVariants.{Boolean, Char, Int, Long, Void}
 use Rattle.jv_instance.specs.declared.datum.JavaDatum.{JavaDatum}
 use Rattle.jv_instance.specs.declared.pred.JavaPred.{JavaPred}
@@ -29,12 +30,13 @@ use Rattle.jv_layout.specs.Fits.{fits, is_member_by, is_package, is_type}
 use Rattle.jv_layout.specs.Folder.{LayoutOf}
 use Rattle.jv_layout.specs.Laws.{IsScopeOf}
 use Rattle.jv_layout.specs.Linked.{IsLinked, IsBelow}
-use Rattle.jv_layout.specs.Readers.{no_member, no_type, access_of, file_at, file_of, is_interface_method_of, member_at, owner_at, owner_scope, object_scope, is_static_of, type_at}
+use Rattle.jv_layout.specs.Readers.{no_member, no_type, access_of, file_at, file_of, is_interface_method_of, member_at, owner_at, owner_scope, object_scope, is_static_of, statics_of, type_at}
 use Rattle.jv_layout.specs.Scopes.{place_of, root_scope, file_scope, type_scope}
 use Rattle.jv_layout.proofs.SoundPlaces.{placed, scopes_have_places}
 use Rattle.jv_tree.specs.declared.name.Ident.{Ident}
 use Rattle.jv_tree.specs.declared.names.NameId.{NameId}
-use Rattle.jv_tree.specs.Numbered.{IsNumberedIdent, IsNumberedName, IsNumberedBase, IsNumberedType}
+use Rattle.jv_tree.specs.DeclTree.{ImportTree}
+use Rattle.jv_tree.specs.Numbered.{IsNumberedIdent, IsNumberedName, IsNumberedBase, IsNumberedType, IsNumberedImport}
 use Rattle.jv_tree.specs.TypeTree.{BaseTree, boolean, char, int, long, void, named, TypeTree}
 use Rattle.jv_names.specs.declared.context.Context.{Context}
 use Rattle.jv_names.specs.declared.context.Context.TheVariants.{TypeName, SingleImport, OnDemandImport}
@@ -48,14 +50,19 @@ use Rattle.jv_names.specs.declared.meaning.Meaning.TheVariants.{One, Nothing, Am
 use Rattle.jv_names.specs.declared.qualifier.Qualifier.{Qualifier}
 use Rattle.jv_names.specs.declared.qualifier.Qualifier.TheVariants.{InPackage, InType}
 use Rattle.jv_names.specs.declared.resolved.Resolved.{Resolved}
+use Rattle.jv_names.specs.declared.static_kind.StaticKind.{StaticKind}
+use Rattle.jv_names.specs.declared.static_kind.StaticKind.TheVariants.{Types, Fields as StaticFields, Methods as StaticMethods}
 use Rattle.jv_names.specs.Access.{is_same_package, has_super, some_body, member_type_by, type_accessible_by, type_accessible, receiver_fits, body_fits, is_constructor, protected_elsewhere, member_accessible_by, member_accessible}
 use Rattle.jv_names.specs.Bodies.{outward, header_bodies}
-use Rattle.jv_names.specs.Bounds.{is_start, IsNameQuery, IsTypeScope, IsPackageScope, AreTypes, MeansOnly, EndsOnly, IsMemberScope, AllMethodsStayIn, FieldsStayIn, MembersAmongStayIn, MethodsStayIn, BodiesAreTypes, IsMeant, IsResolvedIn, IsReferenceIn, IsBaseIn, IsWrittenIn, WrittenTypesStayIn, StaysIn}
-use Rattle.jv_names.specs.Ends.{path_end, is_sought, passes, is_counted, counted_ends, meaning_of, answer_meaning, answer_ends}
+use Rattle.jv_names.specs.Bounds.{is_start, IsNameQuery, IsTypeScope, IsPackageScope, AreTypes, MeansOnly, EndsOnly, IsMemberScope, AllMethodsStayIn, FieldsStayIn, MembersAmongStayIn, MethodsStayIn, BodiesAreTypes, IsMeant, IsResolvedIn, IsReferenceIn, IsBaseIn, IsBroughtOf, IsNamedIn, IsWrittenIn, ReferencesStayIn, StaticsStayIn, TypeNamesStayIn, WrittenTypesStayIn, StaysIn}
+use Rattle.jv_names.specs.Ends.{begins_with, path_end, is_sought, passes, is_counted, counted_ends, meaning_of, answer_meaning, answer_ends}
 use Rattle.jv_names.specs.Members.{all_methods, field, find_ends, is_of_class, is_replaced, lies_below, members_among, members_from, methods, stands_for, with_members}
-use Rattle.jv_names.specs.Names.{look_up, or_next, file_type, member_type, simple_type, ended, on_one, last_meaning, type_part, package_type, subpackage, further_parts, from_root, not_a_type, type_name, import_context, import_name}
+use Rattle.jv_names.specs.Names.{look_up, or_next, member_type, ended, on_one, last_meaning, type_part, package_type, subpackage, further_parts, from_root, import_context, import_name, import_rule, sought_ids, takes_packages}
 use Rattle.jv_names.specs.Reference.{refused, reference}
 use Rattle.jv_names.specs.Replies.{Rule, for_name}
+use Rattle.jv_names.specs.Statics.{brought_by, brought_from, brought_of, import_brings, is_asked, is_brought, kind_brought, kind_members, static_members, statics_of_type, together}
+use Rattle.jv_names.specs.TypeNames.{decided_or, ends_by, file_answer, file_type, not_a_type, on_demand_type, simple_type, single_type, type_name, with_statics}
+use Rattle.jv_names.specs.Written.{last_name, without_last}
 use Rattle.jv_names.specs.WrittenTypes.{meant_base, plain_written, named_written, written_base, written_type}
 
 -- ---- places
@@ -212,9 +219,6 @@ module _ (l : LayoutOf) (count : ℕ) where
   has_super_asks above sub h = (record { start = type_starts (place_of l sub) h; kind = omega arith; plain = λ e. omega (arith, e); pred = tt }, λ a. tt)
 
   module _ (n : NameId) (numbered : n.0 < count) where
-    pub file_type_stays : (file : ℕ) → file < length l.files → StaysIn l count (MeansOnly (IsTypeScope l)) (file_type l file n)
-    file_type_stays file h = look_up_stays FileTypes (for_name FILETYPE (file_scope l file) n) (record { start = file_starts l file h; kind = omega arith; plain = λ e. omega (arith, e); pred = numbered })
-
     pub member_type_stays : (t : Scope) → IsTypeScope l t → StaysIn l count (MeansOnly (IsTypeScope l)) (member_type l t n)
     member_type_stays t h = look_up_stays MemberTypes (for_name MEMTYPE t n) (record { start = type_starts (place_of l t) h; kind = omega arith; plain = λ e. omega (arith, e); pred = numbered })
 
@@ -237,22 +241,11 @@ module _ (l : LayoutOf) (count : ℕ) where
     pub field_stays : (class : Scope) → IsTypeScope l class → StaysIn l count (MeansOnly (IsMemberScope l FIELD)) (field l class n)
     field_stays class h = look_up_stays Fields (for_name FIELDS class n) (record { start = type_starts (place_of l class) h; kind = omega arith; plain = λ e. omega (arith, e); pred = numbered })
 
+    all_methods_start : (s : Scope) → IsTrue (is_start (place_of l s)) → StaysIn l count (EndsOnly (IsMemberScope l METH)) (all_methods l s n)
+    all_methods_start s h = find_ends_stays Methods (for_name METHODS s n) (record { start = h; kind = omega arith; plain = λ e. omega (arith, e); pred = numbered })
+
     pub all_methods_stay : (class : Scope) → IsTypeScope l class → StaysIn l count (EndsOnly (IsMemberScope l METH)) (all_methods l class n)
-    all_methods_stay class h = find_ends_stays Methods (for_name METHODS class n) (record { start = type_starts (place_of l class) h; kind = omega arith; plain = λ e. omega (arith, e); pred = numbered })
-
-    -- ---- simple names
-
-    or_next_stays : (P : Scope → Type 0) (m : Meaning) (next : Rule Meaning) → MeansOnly P m → StaysIn l count (MeansOnly P) next → StaysIn l count (MeansOnly P) (or_next m next)
-    or_next_stays P Nothing next h k = k
-    or_next_stays P (One s) next h k = done_stays (MeansOnly P) (One s) h
-    or_next_stays P Ambiguous next h k = done_stays (MeansOnly P) Ambiguous tt
-    or_next_stays P TooMany next h k = done_stays (MeansOnly P) TooMany tt
-
-    pub simple_type_stays : (file : ℕ) → file < length l.files → (bodies : List Scope) → AreTypes l bodies → StaysIn l count (MeansOnly (IsTypeScope l)) (simple_type l file bodies n)
-    simple_type_stays file below [] h = file_type_stays file below
-    simple_type_stays file below (b ∷ bs) h =
-        then_stays (MeansOnly (IsTypeScope l)) (MeansOnly (IsTypeScope l)) (member_type l b n) (λ m. or_next m (simple_type l file bs n)) (member_type_stays b (All-head (IsTypeScope l) b bs h))
-        (λ m k. or_next_stays (IsTypeScope l) m (simple_type l file bs n) k (simple_type_stays file below bs (All-tail (IsTypeScope l) b bs h)))
+    all_methods_stay class h = all_methods_start class (type_starts (place_of l class) h)
 
   -- ---- names with dots
 
@@ -306,21 +299,26 @@ module _ (l : LayoutOf) (count : ℕ) where
       (λ q is. further_parts_stay context (InPackage q) [] ns is (All-nil (IsTypeScope l)) (All-tail (IsNumberedIdent count) n ns numbered))
       (ended_stays context Nothing [] tt (All-nil (IsTypeScope l))))
 
-  not_a_type_stays : (n : Ident) (ns : List Ident) → IsNumberedName count (n ∷ ns) → StaysIn l count (IsResolvedIn l TypeName) (not_a_type l n ns)
-  not_a_type_stays n [] numbered = ended_stays TypeName Nothing [] tt (All-nil (IsTypeScope l))
-  not_a_type_stays n (k ∷ ks) numbered = from_root_stays TypeName n (k ∷ ks) numbered
-
-  pub type_name_stays : (file : ℕ) (bodies : List Scope) (ids : List Ident) → file < length l.files → AreTypes l bodies → IsNumberedName count ids → StaysIn l count (IsResolvedIn l TypeName) (type_name l file bodies ids)
-  type_name_stays file bodies [] below around numbered = ended_stays TypeName Nothing [] tt (All-nil (IsTypeScope l))
-  type_name_stays file bodies (n ∷ ns) below around numbered =
-      then_stays (MeansOnly (IsTypeScope l)) (IsResolvedIn l TypeName) (simple_type l file bodies n.id) (λ m. on_one m [] (λ s. further_parts l TypeName (InType s) (s ∷ []) ns) (not_a_type l n ns)) (simple_type_stays n.id (All-head (IsNumberedIdent count) n ns numbered) file below bodies around)
-      (λ m means. on_one_stays TypeName (IsTypeScope l) m [] (λ s. further_parts l TypeName (InType s) (s ∷ []) ns) (not_a_type l n ns) means (All-nil (IsTypeScope l))
-      (λ s is. further_parts_stay TypeName (InType s) (s ∷ []) ns is (All-cons (IsTypeScope l) s [] is (All-nil (IsTypeScope l))) (All-tail (IsNumberedIdent count) n ns numbered))
-      (not_a_type_stays n ns numbered))
-
   pub import_name_stays : (all : Bool) (ids : List Ident) → IsNumberedName count ids → StaysIn l count (IsResolvedIn l (import_context all)) (import_name l all ids)
   import_name_stays all [] numbered = ended_stays (import_context all) Nothing [] tt (All-nil (IsTypeScope l))
   import_name_stays all (n ∷ ns) numbered = from_root_stays (import_context all) n ns numbered
+
+  pub without_last_numbered : (ids : List Ident) → IsNumberedName count ids → IsNumberedName count (without_last ids)
+  without_last_numbered [] numbered = All-nil (IsNumberedIdent count)
+  without_last_numbered (i ∷ []) numbered = All-nil (IsNumberedIdent count)
+  without_last_numbered (i ∷ j ∷ is) numbered =
+      All-cons (IsNumberedIdent count) i (without_last (j ∷ is)) (All-head (IsNumberedIdent count) i (j ∷ is) numbered) (without_last_numbered (j ∷ is) (All-tail (IsNumberedIdent count) i (j ∷ is) numbered))
+
+  pub last_numbered : (ids : List Ident) → 0 < length ids → IsNumberedName count ids → (last_name ids).0 < count
+  last_numbered [] some numbered = absurd (omega arith)
+  last_numbered (i ∷ []) some numbered = All-head (IsNumberedIdent count) i [] numbered
+  last_numbered (i ∷ j ∷ is) some numbered = last_numbered (j ∷ is) (omega arith) (All-tail (IsNumberedIdent count) i (j ∷ is) numbered)
+
+  -- what an import means
+  pub import_rule_stays : (i : ImportTree) → IsNumberedImport count i → StaysIn l count (IsResolvedIn l (import_context (takes_packages i))) (import_rule l i)
+  import_rule_stays i numbered =
+      import_name_stays (takes_packages i) (sought_ids i)
+      (elim (i.is_static && not i.all) as (λ (b : Bool). IsNumberedName count (cond b (without_last i.name) i.name)) [ true ↦ without_last_numbered i.name numbered | false ↦ numbered ])
 
   -- ---- access
 
@@ -416,9 +414,162 @@ module _ (l : LayoutOf) (count : ℕ) where
     with_members_stay (Scopes ms) h =
         then_stays (All (IsMemberScope l METH)) (EndsOnly (IsMemberScope l METH)) (members_among l ms) (λ ks. done (Scopes ks)) (members_among_stay ms h) (λ ks are. done_stays (EndsOnly (IsMemberScope l METH)) (Scopes ks) are)
 
+    methods_start : (n : NameId) → n.0 < count → (s : Scope) → IsTrue (is_start (place_of l s)) → StaysIn l count (EndsOnly (IsMemberScope l METH)) (methods l s n)
+    methods_start n numbered s h =
+        then_stays (EndsOnly (IsMemberScope l METH)) (EndsOnly (IsMemberScope l METH)) (all_methods l s n) (with_members l) (all_methods_start n numbered s h) with_members_stay
+
     pub methods_stay : (n : NameId) → n.0 < count → (class : Scope) → IsTypeScope l class → StaysIn l count (EndsOnly (IsMemberScope l METH)) (methods l class n)
-    methods_stay n numbered class h =
-        then_stays (EndsOnly (IsMemberScope l METH)) (EndsOnly (IsMemberScope l METH)) (all_methods l class n) (with_members l) (all_methods_stay n numbered class h) with_members_stay
+    methods_stay n numbered class h = methods_start n numbered class (type_starts (place_of l class) h)
+
+  -- ---- static imports
+
+  all_puts : (P : Scope → Type 0) (xs ys : List Scope) → All P xs → All P ys → All P (fold (put scope_cmp) xs ys)
+  all_puts P xs [] h k = h
+  all_puts P xs (y ∷ ys) h k = all_puts P (put scope_cmp xs y) ys (all_put P xs y h (All-head P y ys k)) (All-tail P y ys k)
+
+  brought_only : (P : Scope → Type 0) (file : ℕ) (e : Ends) → EndsOnly P e → EndsOnly P (brought_of l file e)
+  brought_only P file (Scopes ms) h = all_puts P [] (filter (is_brought l file) ms) (All-nil P) (All-filter (is_brought l file) P ms h)
+  brought_only P file TooManyEnds h = tt
+
+  together_only : (P : Scope → Type 0) (a b : Ends) → EndsOnly P a → EndsOnly P b → EndsOnly P (together a b)
+  together_only P (Scopes ms) (Scopes ks) h k = all_puts P ms ks h k
+  together_only P (Scopes ms) TooManyEnds h k = tt
+  together_only P TooManyEnds e h k = tt
+
+  -- what a name means is a scope from which names are looked up
+  meant_starts : (context : Context) (s : Scope) → IsMeant l context s → IsTrue (is_start (place_of l s))
+  meant_starts TypeName s h = type_starts (place_of l s) h
+  meant_starts SingleImport s h = type_starts (place_of l s) h
+  meant_starts OnDemandImport s (inl h) = type_starts (place_of l s) h
+  meant_starts OnDemandImport s (inr h) = package_starts (place_of l s) h
+
+  module _ (linked : IsLinked l) (file : ℕ) (n : NameId) (numbered : n.0 < count) where
+    kind_members_stay : (k : StaticKind) (t : Scope) → IsTrue (is_start (place_of l t)) → StaysIn l count (EndsOnly (IsBroughtOf l k)) (kind_members l k t n)
+    kind_members_stay Types t h = find_ends_stays MemberTypes (for_name MEMTYPE t n) (record { start = h; kind = omega arith; plain = λ e. omega (arith, e); pred = numbered })
+    kind_members_stay StaticFields t h = find_ends_stays Fields (for_name FIELDS t n) (record { start = h; kind = omega arith; plain = λ e. omega (arith, e); pred = numbered })
+    kind_members_stay StaticMethods t h = methods_start linked n numbered t h
+
+    kind_brought_stays : (k : StaticKind) (t : Scope) → IsTrue (is_start (place_of l t)) → StaysIn l count (EndsOnly (IsBroughtOf l k)) (kind_brought l file k t n)
+    unfolding kind_brought
+    kind_brought_stays k t h =
+        then_stays (EndsOnly (IsBroughtOf l k)) (EndsOnly (IsBroughtOf l k)) (kind_members l k t n) (λ e. done (brought_of l file e)) (kind_members_stay k t h)
+        (λ e only. done_stays (EndsOnly (IsBroughtOf l k)) (brought_of l file e) (brought_only (IsBroughtOf l k) file e only))
+
+    brought_by_stays : (k : StaticKind) (context : Context) (m : Meaning) → MeansOnly (IsMeant l context) m → StaysIn l count (EndsOnly (IsBroughtOf l k)) (brought_by l file k n m)
+    brought_by_stays k context (One t) h = kind_brought_stays k t (meant_starts context t h)
+    brought_by_stays k context Nothing h = done_stays (EndsOnly (IsBroughtOf l k)) (Scopes []) (All-nil (IsBroughtOf l k))
+    brought_by_stays k context Ambiguous h = done_stays (EndsOnly (IsBroughtOf l k)) (Scopes []) (All-nil (IsBroughtOf l k))
+    brought_by_stays k context TooMany h = done_stays (EndsOnly (IsBroughtOf l k)) TooManyEnds tt
+
+    import_brings_stays : (k : StaticKind) (i : ImportTree) → IsNumberedImport count i → StaysIn l count (EndsOnly (IsBroughtOf l k)) (import_brings l file k n i)
+    unfolding import_brings
+    import_brings_stays k i h =
+        then_stays (IsResolvedIn l (import_context (takes_packages i))) (EndsOnly (IsBroughtOf l k)) (import_rule l i) (λ r. brought_by l file k n r.meaning) (import_rule_stays i h)
+        (λ r is. brought_by_stays k (import_context (takes_packages i)) r.meaning is.meaning)
+
+    brought_from_stay : (all : Bool) (k : StaticKind) (found : Ends) (is : List ImportTree) → EndsOnly (IsBroughtOf l k) found → All (IsNumberedImport count) is → StaysIn l count (EndsOnly (IsBroughtOf l k)) (brought_from l file all k n found is)
+    brought_from_stay all k found [] h g = done_stays (EndsOnly (IsBroughtOf l k)) found h
+    brought_from_stay all k found (i ∷ is) h g =
+        elim (is_asked all n i) as (λ (b : Bool). StaysIn l count (EndsOnly (IsBroughtOf l k)) (cond b (and_then (import_brings l file k n i) (λ e. brought_from l file all k n (together found e) is)) (brought_from l file all k n found is))) [
+          | true ↦ then_stays (EndsOnly (IsBroughtOf l k)) (EndsOnly (IsBroughtOf l k)) (import_brings l file k n i) (λ e. brought_from l file all k n (together found e) is) (import_brings_stays k i (All-head (IsNumberedImport count) i is g))
+              (λ e only. brought_from_stay all k (together found e) is (together_only (IsBroughtOf l k) found e h only) (All-tail (IsNumberedImport count) i is g))
+          | false ↦ brought_from_stay all k found is h (All-tail (IsNumberedImport count) i is g)
+        ]
+
+    -- all that one type brings of a name
+    pub statics_of_type_stay : (t : Scope) → IsTrue (is_start (place_of l t)) → StaysIn l count (λ (e : Ends). Unit {0}) (statics_of_type l file t n)
+    unfolding statics_of_type
+    statics_of_type_stay t h =
+        then_stays (EndsOnly (IsBroughtOf l Types)) (λ (e : Ends). Unit {0}) (kind_brought l file Types t n)
+        (λ a. and_then (kind_brought l file StaticFields t n) (λ b. and_then (kind_brought l file StaticMethods t n) (λ c. done (together (together a b) c)))) (kind_brought_stays Types t h)
+        (λ a only. then_stays (EndsOnly (IsBroughtOf l StaticFields)) (λ (e : Ends). Unit {0}) (kind_brought l file StaticFields t n)
+        (λ b. and_then (kind_brought l file StaticMethods t n) (λ c. done (together (together a b) c))) (kind_brought_stays StaticFields t h)
+        (λ b only. then_stays (EndsOnly (IsBroughtOf l StaticMethods)) (λ (e : Ends). Unit {0}) (kind_brought l file StaticMethods t n)
+        (λ c. done (together (together a b) c)) (kind_brought_stays StaticMethods t h)
+        (λ c only. done_stays (λ (e : Ends). Unit {0}) (together (together a b) c) tt)))
+
+  -- ---- types that a file sees
+
+  file_end : (label : ℕ) (fs : List (Found JavaDatum)) (s : Scope) → Contains (ends_by l label fs) s → IsTypeScope l s
+  file_end label fs s k =
+      let test = λ (f : Found JavaDatum). is_counted l FileTypes f && begins_with label f.path.steps in
+      let h : (f : Found JavaDatum) × Contains (filter test fs) f × (s ≡ path_end f.path) = Contains-map (λ (f : Found JavaDatum). path_end f.path) (filter test fs) s k in
+      let both : (is_counted l FileTypes h.0 && begins_with label h.0.path.steps) ≡ true = (Contains-filter test fs h.0 h.1).1 in
+      let counted : is_counted l FileTypes h.0 ≡ true = (and_parts (is_counted l FileTypes h.0) (begins_with label h.0.path.steps) both).0 in
+      subst (IsTypeScope l) (sym h.2) (and_parts (is_sought l FileTypes (place_of l (path_end h.0.path))) (passes l FileTypes h.0.path) (and_parts (fits l h.0.path) _ counted).1).0
+
+  file_ends_types : (label : ℕ) (fs : List (Found JavaDatum)) → AreTypes l (ends_by l label fs)
+  file_ends_types label fs = All-weaker (Contains (ends_by l label fs)) (IsTypeScope l) (file_end label fs) (ends_by l label fs) (All-contains_itself (ends_by l label fs))
+
+  types_mean : (es : List Scope) → AreTypes l es → MeansOnly (IsTypeScope l) (meaning_of es)
+  types_mean es h = meaning_among l FileTypes (IsTypeScope l) es (λ s k. All-contains (IsTypeScope l) es s h k)
+
+  decided_stays : (es : List Scope) (next : Rule Meaning) → AreTypes l es → StaysIn l count (MeansOnly (IsTypeScope l)) next → StaysIn l count (MeansOnly (IsTypeScope l)) (decided_or es next)
+  decided_stays [] next h k = k
+  decided_stays (e ∷ es) next h k = done_stays (MeansOnly (IsTypeScope l)) (meaning_of (e ∷ es)) (types_mean (e ∷ es) h)
+
+  with_statics_stay : (es : List Scope) (e : Ends) (f : List Scope → Rule Meaning) → AreTypes l es → EndsOnly (IsTypeScope l) e → ((ss : List Scope) → AreTypes l ss → StaysIn l count (MeansOnly (IsTypeScope l)) (f ss))
+      → StaysIn l count (MeansOnly (IsTypeScope l)) (with_statics es e f)
+  with_statics_stay es TooManyEnds f h k g = done_stays (MeansOnly (IsTypeScope l)) TooMany tt
+  with_statics_stay es (Scopes ss) f h k g = g (ss ++ es) (All-append (IsTypeScope l) ss es k h)
+
+  or_next_stays : (P : Scope → Type 0) (m : Meaning) (next : Rule Meaning) → MeansOnly P m → StaysIn l count (MeansOnly P) next → StaysIn l count (MeansOnly P) (or_next m next)
+  or_next_stays P Nothing next h k = k
+  or_next_stays P (One s) next h k = done_stays (MeansOnly P) (One s) h
+  or_next_stays P Ambiguous next h k = done_stays (MeansOnly P) Ambiguous tt
+  or_next_stays P TooMany next h k = done_stays (MeansOnly P) TooMany tt
+
+  not_a_type_stays : (n : Ident) (ns : List Ident) → IsNumberedName count (n ∷ ns) → StaysIn l count (IsResolvedIn l TypeName) (not_a_type l n ns)
+  not_a_type_stays n [] numbered = ended_stays TypeName Nothing [] tt (All-nil (IsTypeScope l))
+  not_a_type_stays n (k ∷ ks) numbered = from_root_stays TypeName n (k ∷ ks) numbered
+
+  -- ---- rules that look into static imports
+
+  module _ (sound : IsNamedIn l count) where
+    pub static_members_stay : (file : ℕ) (all : Bool) (k : StaticKind) (n : NameId) → n.0 < count → StaysIn l count (EndsOnly (IsBroughtOf l k)) (static_members l file all k n)
+    unfolding static_members
+    static_members_stay file all k n numbered = brought_from_stay sound.linked file n numbered all k (Scopes []) (statics_of l file) (All-nil (IsBroughtOf l k)) (sound.statics file)
+
+    pub statics_of_type_stays : (file : ℕ) (t : Scope) (n : NameId) → IsTrue (is_start (place_of l t)) → n.0 < count → StaysIn l count (λ (e : Ends). Unit {0}) (statics_of_type l file t n)
+    statics_of_type_stays file t n h numbered = statics_of_type_stay sound.linked file n numbered t h
+
+    module _ (n : NameId) (numbered : n.0 < count) where
+      on_demand_type_stays : (file : ℕ) (fs : List (Found JavaDatum)) → StaysIn l count (MeansOnly (IsTypeScope l)) (on_demand_type l file n fs)
+      on_demand_type_stays file fs =
+          then_stays (EndsOnly (IsTypeScope l)) (MeansOnly (IsTypeScope l)) (static_members l file true Types n) (λ e. with_statics (ends_by l ODI fs) e (λ ss. done (meaning_of ss))) (static_members_stay file true Types n numbered)
+          (λ e only. with_statics_stay (ends_by l ODI fs) e (λ ss. done (meaning_of ss)) (file_ends_types ODI fs) only (λ ss are. done_stays (MeansOnly (IsTypeScope l)) (meaning_of ss) (types_mean ss are)))
+
+      single_type_stays : (file : ℕ) (fs : List (Found JavaDatum)) → StaysIn l count (MeansOnly (IsTypeScope l)) (single_type l file n fs)
+      single_type_stays file fs =
+          then_stays (EndsOnly (IsTypeScope l)) (MeansOnly (IsTypeScope l)) (static_members l file false Types n)
+          (λ e. with_statics (ends_by l SIMP fs) e (λ ss. decided_or ss (decided_or (ends_by l PKGOF fs) (on_demand_type l file n fs)))) (static_members_stay file false Types n numbered)
+          (λ e only. with_statics_stay (ends_by l SIMP fs) e (λ ss. decided_or ss (decided_or (ends_by l PKGOF fs) (on_demand_type l file n fs))) (file_ends_types SIMP fs) only
+          (λ ss are. decided_stays ss (decided_or (ends_by l PKGOF fs) (on_demand_type l file n fs)) are
+          (decided_stays (ends_by l PKGOF fs) (on_demand_type l file n fs) (file_ends_types PKGOF fs) (on_demand_type_stays file fs))))
+
+      file_answer_stays : (file : ℕ) (a : Answer JavaDatum) → StaysIn l count (MeansOnly (IsTypeScope l)) (file_answer l file n a)
+      file_answer_stays file (Paths fs) = decided_stays (ends_by l SELF fs) (single_type l file n fs) (file_ends_types SELF fs) (single_type_stays file fs)
+      file_answer_stays file TooManyPaths = done_stays (MeansOnly (IsTypeScope l)) TooMany tt
+
+      pub file_type_stays : (file : ℕ) → file < length l.files → StaysIn l count (MeansOnly (IsTypeScope l)) (file_type l file n)
+      file_type_stays file h = record {
+        asks = (record { start = file_starts l file h; kind = omega arith; plain = λ e. omega (arith, e); pred = numbered }, λ a. (file_answer_stays file a).asks);
+        ends = λ a. (file_answer_stays file a).ends;
+      }
+
+      pub simple_type_stays : (file : ℕ) → file < length l.files → (bodies : List Scope) → AreTypes l bodies → StaysIn l count (MeansOnly (IsTypeScope l)) (simple_type l file bodies n)
+      simple_type_stays file below [] h = file_type_stays file below
+      simple_type_stays file below (b ∷ bs) h =
+          then_stays (MeansOnly (IsTypeScope l)) (MeansOnly (IsTypeScope l)) (member_type l b n) (λ m. or_next m (simple_type l file bs n)) (member_type_stays n numbered b (All-head (IsTypeScope l) b bs h))
+          (λ m k. or_next_stays (IsTypeScope l) m (simple_type l file bs n) k (simple_type_stays file below bs (All-tail (IsTypeScope l) b bs h)))
+
+    pub type_name_stays : (file : ℕ) (bodies : List Scope) (ids : List Ident) → file < length l.files → AreTypes l bodies → IsNumberedName count ids → StaysIn l count (IsResolvedIn l TypeName) (type_name l file bodies ids)
+    type_name_stays file bodies [] below around numbered = ended_stays TypeName Nothing [] tt (All-nil (IsTypeScope l))
+    type_name_stays file bodies (n ∷ ns) below around numbered =
+        then_stays (MeansOnly (IsTypeScope l)) (IsResolvedIn l TypeName) (simple_type l file bodies n.id) (λ m. on_one m [] (λ s. further_parts l TypeName (InType s) (s ∷ []) ns) (not_a_type l n ns)) (simple_type_stays n.id (All-head (IsNumberedIdent count) n ns numbered) file below bodies around)
+        (λ m means. on_one_stays TypeName (IsTypeScope l) m [] (λ s. further_parts l TypeName (InType s) (s ∷ []) ns) (not_a_type l n ns) means (All-nil (IsTypeScope l))
+        (λ s is. further_parts_stay TypeName (InType s) (s ∷ []) ns is (All-cons (IsTypeScope l) s [] is (All-nil (IsTypeScope l))) (All-tail (IsNumberedIdent count) n ns numbered))
+        (not_a_type_stays n ns numbered))
 
   -- ---- references
 
@@ -438,9 +589,10 @@ module _ (l : LayoutOf) (count : ℕ) where
       (λ r is. then_stays (AreTypes l) (IsReferenceIn l context) (refused l file bodies [] r.types) (λ ts. done (record { meaning = r.meaning; refused = ts })) (refused_stays file bodies [] r.types around (All-nil (IsTypeScope l)) is.types)
       (λ ts are. done_stays (IsReferenceIn l context) (record { meaning = r.meaning; refused = ts }) (record { meaning = is.meaning; refused = are })))
 
-  pub reference_stays : (file : ℕ) (bodies : List Scope) (ids : List Ident) → file < length l.files → AreTypes l bodies → IsNumberedName count ids → StaysIn l count (IsReferenceIn l TypeName) (reference l file bodies ids)
-  unfolding reference
-  reference_stays file bodies ids below around numbered = referred_stays TypeName file bodies (type_name l file bodies ids) around (type_name_stays file bodies ids below around numbered)
+  module _ (sound : IsNamedIn l count) where
+    pub reference_stays : (file : ℕ) (bodies : List Scope) (ids : List Ident) → file < length l.files → AreTypes l bodies → IsNumberedName count ids → StaysIn l count (IsReferenceIn l TypeName) (reference l file bodies ids)
+    unfolding reference
+    reference_stays file bodies ids below around numbered = referred_stays TypeName file bodies (type_name l file bodies ids) around (type_name_stays sound file bodies ids below around numbered)
 
   -- ---- types that are written
 
@@ -450,7 +602,7 @@ module _ (l : LayoutOf) (count : ℕ) where
   meant_base_in Ambiguous h = tt
   meant_base_in TooMany h = tt
 
-  module _ (names : List (List ℕ)) (file : ℕ) (bodies : List Scope) (below : file < length l.files) (around : AreTypes l bodies) where
+  module _ (sound : IsNamedIn l count) (names : List (List ℕ)) (file : ℕ) (bodies : List Scope) (below : file < length l.files) (around : AreTypes l bodies) where
     written_base_stays : (dims : ℕ) (b : BaseTree) → IsNumberedBase count b → StaysIn l count (IsWrittenIn l) (written_base l names file bodies dims b)
     written_base_stays dims boolean numbered = done_stays (IsWrittenIn l) (plain_written Boolean dims) tt
     written_base_stays dims char numbered = done_stays (IsWrittenIn l) (plain_written Char dims) tt
@@ -458,7 +610,7 @@ module _ (l : LayoutOf) (count : ℕ) where
     written_base_stays dims long numbered = done_stays (IsWrittenIn l) (plain_written Long dims) tt
     written_base_stays dims void numbered = done_stays (IsWrittenIn l) (plain_written Void dims) tt
     written_base_stays dims (named ids) numbered =
-        then_stays (IsReferenceIn l TypeName) (IsWrittenIn l) (reference l file bodies ids) (λ r. done (named_written l names file ids dims r)) (reference_stays file bodies ids below around numbered)
+        then_stays (IsReferenceIn l TypeName) (IsWrittenIn l) (reference l file bodies ids) (λ r. done (named_written l names file ids dims r)) (reference_stays sound file bodies ids below around numbered)
         (λ r is. done_stays (IsWrittenIn l) (named_written l names file ids dims r) (meant_base_in r.meaning is.meaning))
 
     pub written_type_stays : (t : TypeTree) → IsNumberedType count t → StaysIn l count (IsWrittenIn l) (written_type l names file bodies t)
@@ -482,5 +634,14 @@ members_among_stay_in l count ms linked are = members_among_stay l count linked 
 pub bodies_are_types : BodiesAreTypes
 bodies_are_types l c linked h = (header_bodies_types l linked c h, All-cons (IsTypeScope l) c (header_bodies l c) h (header_bodies_types l linked c h))
 
+pub type_names_stay_in : TypeNamesStayIn
+type_names_stay_in l count file bodies ids sound below around numbered = type_name_stays l count sound file bodies ids below around numbered
+
+pub statics_stay_in : StaticsStayIn
+statics_stay_in l count file all k n sound numbered = static_members_stay l count sound file all k n numbered
+
+pub references_stay_in : ReferencesStayIn
+references_stay_in l count file bodies ids sound below around numbered = reference_stays l count sound file bodies ids below around numbered
+
 pub written_types_stay_in : WrittenTypesStayIn
-written_types_stay_in l count names file bodies t below around numbered = written_type_stays l count names file bodies below around t numbered
+written_types_stay_in l count names file bodies t sound below around numbered = written_type_stays l count sound names file bodies below around t numbered

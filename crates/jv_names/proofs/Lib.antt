@@ -1,5 +1,9 @@
 pub mod References
 pub mod ReplacingSteps
+pub mod Brought
+pub mod StaticSteps
+pub mod FileSteps
+pub mod Parting
 pub mod Steps
 pub mod Dots
 pub mod Ending

@@ -7,8 +7,7 @@ use Rattle.std.proofs.lemmas.List.Folds.{list_all-append}
 use Rattle.sg_base.specs.declared.scope.Scope.{Scope}
 use Rattle.sg_base.specs.declared.step.Step.{Step}
 use Rattle.sg_base.specs.Path.{end_of}
-use Rattle.jv_instance.specs.declared.labels.TheConstants.{ODI}
-use Rattle.jv_names.specs.Ends.{is_on_demand}
+use Rattle.jv_names.specs.Ends.{begins_with}
 use Rattle.jv_names.specs.Inherited.{declarer, left_by}
 
 -- ---- tests of all items, the last one apart
@@ -75,21 +74,21 @@ left_known f s t ps qs k a e h b =
 
 -- ---- the first step
 
--- whether the first of these steps is an import on demand; where there is none, whether the one behind them is
-abbrev pub demand_from : Bool → List Step → Bool
-demand_from b [] = b
-demand_from b (p ∷ ps) = p.label == ODI
+-- whether the first of these steps has a label; where there is none, whether the one behind them has it
+abbrev pub first_from : ℕ → Bool → List Step → Bool
+first_from label b [] = b
+first_from label b (p ∷ ps) = p.label == label
 
-pub demand_first : (ps : List Step) → is_on_demand ps ≡ demand_from false ps
-demand_first [] = refl
-demand_first (p ∷ ps) = refl
+pub first_step : (label : ℕ) (ps : List Step) → begins_with label ps ≡ first_from label false ps
+first_step label [] = refl
+first_step label (p ∷ ps) = refl
 
-demand_split : (a : Bool) (ps : List Step) (x : Step) → demand_from a (ps ++ x ∷ []) ≡ demand_from (x.label == ODI) ps
-demand_split a [] x = refl
-demand_split a (p ∷ ps) x = refl
+first_split : (label : ℕ) (a : Bool) (ps : List Step) (x : Step) → first_from label a (ps ++ x ∷ []) ≡ first_from label (x.label == label) ps
+first_split label a [] x = refl
+first_split label a (p ∷ ps) x = refl
 
-pub demand_last : (a : Bool) (ps qs : List Step) (x : Step) → qs ≡ ps ++ x ∷ [] → demand_from a qs ≡ demand_from (x.label == ODI) ps
-demand_last a ps qs x e = ap (demand_from a) e ∙ demand_split a ps x
+pub first_last : (label : ℕ) (a : Bool) (ps qs : List Step) (x : Step) → qs ≡ ps ++ x ∷ [] → first_from label a qs ≡ first_from label (x.label == label) ps
+first_last label a ps qs x e = ap (first_from label a) e ∙ first_split label a ps x
 
-pub demand_none : (a : Bool) (qs : List Step) → qs ≡ [] → demand_from a qs ≡ a
-demand_none a qs e = ap (demand_from a) e
+pub first_none : (label : ℕ) (a : Bool) (qs : List Step) → qs ≡ [] → first_from label a qs ≡ a
+first_none label a qs e = ap (first_from label a) e

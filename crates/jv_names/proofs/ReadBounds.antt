@@ -20,7 +20,6 @@ use Rattle.jv_instance.specs.declared.type_base.TypeBase.TheVariants.{Boolean, C
 use Rattle.jv_instance.specs.Types.{is_bad}
 use Rattle.jv_layout.specs.Fits.{fits, is_type}
 use Rattle.jv_layout.specs.Folder.{LayoutOf}
-use Rattle.jv_layout.specs.Linked.{IsLinked}
 use Rattle.jv_layout.specs.Readers.{file_of, is_interface_of, is_static_of, object_scope}
 use Rattle.jv_layout.specs.Scopes.{place_of}
 use Rattle.jv_tree.specs.declared.name.Ident.{Ident}
@@ -33,15 +32,15 @@ use Rattle.jv_names.specs.declared.meaning.Meaning.{Meaning}
 use Rattle.jv_names.specs.declared.meaning.Meaning.TheVariants.{One, Nothing, Ambiguous, TooMany}
 use Rattle.jv_names.specs.Access.{has_super, some_body}
 use Rattle.jv_names.specs.Bodies.{header_bodies}
-use Rattle.jv_names.specs.Bounds.{IsNameQuery, IsLayoutQuery, IsListed, IsTypeScope, AreTypes, IsMemberScope, IsBaseIn, IsTyIn, IsReadIn, IsMeant, IsResolvedIn, MeansOnly, SignaturesAskIn, CtorsAskIn, SupersAskIn, ResultsAskIn, SuperclassesAskIn, InstancesAskIn, InstanceBodiesAreTypes}
+use Rattle.jv_names.specs.Bounds.{IsNameQuery, IsLayoutQuery, IsListed, IsTypeScope, AreTypes, IsMemberScope, IsBaseIn, IsTyIn, IsReadIn, IsMeant, IsNamedIn, IsResolvedIn, MeansOnly, SignaturesAskIn, CtorsAskIn, SupersAskIn, ResultsAskIn, SuperclassesAskIn, InstancesAskIn, InstanceBodiesAreTypes}
 use Rattle.jv_names.specs.Chosen.{fits_all, fits_or_bad}
 use Rattle.jv_names.specs.Ends.{counted_ends}
 use Rattle.jv_names.specs.Instances.{instances_from, has_enclosing}
 use Rattle.jv_names.specs.Members.{find_ends}
-use Rattle.jv_names.specs.Names.{type_name}
 use Rattle.jv_names.specs.Read.{SignatureOf, base_in, ty_in, signature_in, one_signature, answer_signature, signature_of, answer_supers, supers_of, is_under_object, base_fits, result_fits, one_ctor, answer_ctor, ctor_of}
 use Rattle.jv_names.specs.Replies.{Rule}
 use Rattle.jv_names.specs.Superclass.{meant_superclass, named_superclass, superclass}
+use Rattle.jv_names.specs.TypeNames.{type_name}
 use Rattle.jv_names.proofs.Bounds.{counted_end, file_is_one, header_bodies_types, object_is_type, type_name_stays}
 use Rattle.jv_names.proofs.Listed.{start_is_listed, type_is_listed}
 
@@ -212,17 +211,17 @@ module _ (l : LayoutOf) (count : ℕ) where
 
   -- ---- superclasses and enclosing instances
 
-  module _ (c : Scope) (linked : IsLinked l) (is : IsTypeScope l c) where
+  module _ (c : Scope) (named : IsNamedIn l count) (is : IsTypeScope l c) where
     extended_asks : (ids : List Ident) → IsNumberedName count ids → AllAsked Asked (named_superclass l c ids)
     extended_asks ids numbered =
         and_then-asked Asked (type_name l (file_of l c) (header_bodies l c) ids) (λ r. done (meant_superclass l r.meaning))
-        (AllAsked-more (IsNameQuery l count) Asked (type_name l (file_of l c) (header_bodies l c) ids) name_asked (type_name_stays l count (file_of l c) (header_bodies l c) ids (file_is_one l linked c is) (header_bodies_types l linked c is) numbered).asks)
+        (AllAsked-more (IsNameQuery l count) Asked (type_name l (file_of l c) (header_bodies l c) ids) name_asked (type_name_stays l count named (file_of l c) (header_bodies l c) ids (file_is_one l named.linked c is) (header_bodies_types l named.linked c is) numbered).asks)
         (λ r. tt)
 
     extended_found : (ids : List Ident) → IsNumberedName count ids → AllEnds (IsTypeScope l) (named_superclass l c ids)
     extended_found ids numbered =
         and_then-ends (IsResolvedIn l TypeName) (IsTypeScope l) (type_name l (file_of l c) (header_bodies l c) ids) (λ r. done (meant_superclass l r.meaning))
-        (type_name_stays l count (file_of l c) (header_bodies l c) ids (file_is_one l linked c is) (header_bodies_types l linked c is) numbered).ends
+        (type_name_stays l count named (file_of l c) (header_bodies l c) ids (file_is_one l named.linked c is) (header_bodies_types l named.linked c is) numbered).ends
         (λ r means. superclass_is_type l r.meaning (object_is_type l c is) means.meaning)
 
     pub superclass_asks : (ns : List (List Ident)) → AreNumberedNames count ns → AllAsked Asked (superclass l c ns)
@@ -253,7 +252,7 @@ pub results_ask_in : ResultsAskIn
 results_ask_in l count s t h = record { asks = result_asks l count s t h; ends = any_ends (result_fits l s t) }
 
 pub superclasses_ask_in : SuperclassesAskIn
-superclasses_ask_in l count c ns linked is numbered = record { asks = superclass_asks l count c linked is ns numbered; ends = superclass_found l count c linked is ns numbered }
+superclasses_ask_in l count c ns named is numbered = record { asks = superclass_asks l count c named is ns numbered; ends = superclass_found l count c named is ns numbered }
 
 pub instances_ask_in : InstancesAskIn
 instances_ask_in l count bodies s o around = record { asks = enclosing_asks l count bodies s o around; ends = any_ends (has_enclosing l bodies s o) }

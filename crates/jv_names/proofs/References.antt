@@ -15,9 +15,9 @@ use Rattle.jv_tree.specs.declared.name.Ident.{Ident}
 use Rattle.jv_names.specs.declared.reference.Reference.{Reference}
 use Rattle.jv_names.specs.declared.resolved.Resolved.{Resolved}
 use Rattle.jv_names.specs.Access.{type_accessible}
-use Rattle.jv_names.specs.Names.{type_name}
 use Rattle.jv_names.specs.Reference.{refused, reference}
 use Rattle.jv_names.specs.Replies.{Rule}
+use Rattle.jv_names.specs.TypeNames.{type_name}
 use Rattle.jv_names.proofs.Steps.{name_steps}
 
 module _ (reply : Query JavaPred → Option (Answer JavaDatum)) (l : LayoutOf) (file : ℕ) (bodies : List Scope) where

@@ -26,8 +26,9 @@ use Rattle.jv_names.specs.declared.qualifier.Qualifier.TheVariants.{InPackage, I
 use Rattle.jv_names.specs.declared.resolved.Resolved.{Resolved}
 use Rattle.jv_names.specs.Ends.{answer_meaning, answer_ends, has_end}
 use Rattle.jv_names.specs.Members.{find_ends}
-use Rattle.jv_names.specs.Names.{look_up, or_next, on_one, ended, file_type, member_type, simple_type, type_part, package_type, subpackage, further_parts}
+use Rattle.jv_names.specs.Names.{look_up, or_next, on_one, ended, member_type, type_part, package_type, subpackage, further_parts}
 use Rattle.jv_names.specs.Replies.{Rule, for_any}
+use Rattle.jv_names.specs.TypeNames.{file_type, simple_type}
 use Rattle.jv_names.specs.Access.{has_super, some_body, receiver_fits, body_fits}
 
 abbrev Replies : Type 0

@@ -15,11 +15,13 @@ use Rattle.jv_layout.specs.declared.place.Place.TheVariants.{Outside, Root, Unna
 use Rattle.jv_layout.specs.Fits.{is_package, is_type, is_member_by}
 use Rattle.jv_layout.specs.Folder.{LayoutOf}
 use Rattle.jv_layout.specs.Linked.{IsLinked}
+use Rattle.jv_layout.specs.Readers.{statics_of}
 use Rattle.jv_layout.specs.Scopes.{place_of}
 use Rattle.jv_layout.specs.Skeleton.{skeleton_of}
 use Rattle.jv_tree.specs.declared.name.Ident.{Ident}
 use Rattle.jv_tree.specs.declared.names.NameId.{NameId}
-use Rattle.jv_tree.specs.Numbered.{IsNumberedName, AreNumberedNames, IsNumberedType}
+use Rattle.jv_tree.specs.DeclTree.{ImportTree}
+use Rattle.jv_tree.specs.Numbered.{IsNumberedName, AreNumberedNames, IsNumberedType, IsNumberedImport}
 use Rattle.jv_tree.specs.TypeTree.{TypeTree}
 use Rattle.jv_names.specs.declared.context.Context.{Context}
 use Rattle.jv_names.specs.declared.context.Context.TheVariants.{TypeName, SingleImport, OnDemandImport}
@@ -30,17 +32,21 @@ use Rattle.jv_names.specs.declared.meaning.Meaning.{Meaning}
 use Rattle.jv_names.specs.declared.meaning.Meaning.TheVariants.{One, Nothing, Ambiguous, TooMany}
 use Rattle.jv_names.specs.declared.reference.Reference.{Reference}
 use Rattle.jv_names.specs.declared.resolved.Resolved.{Resolved}
+use Rattle.jv_names.specs.declared.static_kind.StaticKind.{StaticKind}
+use Rattle.jv_names.specs.declared.static_kind.StaticKind.TheVariants.{Types, Fields, Methods}
 use Rattle.jv_names.specs.declared.written_type.WrittenType.{WrittenType}
 use Rattle.jv_names.specs.Access.{type_accessible, member_accessible}
 use Rattle.jv_names.specs.Bodies.{header_bodies, member_bodies}
 use Rattle.jv_names.specs.Instances.{instance_bodies, has_enclosing}
 use Rattle.jv_names.specs.Kinds.{kinds}
 use Rattle.jv_names.specs.Members.{all_methods, field, members_among, methods}
-use Rattle.jv_names.specs.Names.{type_name, import_context, import_name}
+use Rattle.jv_names.specs.Names.{import_context, import_name, import_rule, takes_packages}
 use Rattle.jv_names.specs.Read.{SignatureOf, signature_of, supers_of, result_fits, ctor_of}
 use Rattle.jv_names.specs.Reference.{reference}
 use Rattle.jv_names.specs.Replies.{Rule}
+use Rattle.jv_names.specs.Statics.{static_members}
 use Rattle.jv_names.specs.Superclass.{superclass}
+use Rattle.jv_names.specs.TypeNames.{type_name}
 use Rattle.jv_names.specs.WrittenTypes.{written_type}
 
 -- ---- queries
@@ -147,6 +153,19 @@ IsReadIn l s = IsTyIn l s.result × All (IsTyIn l) s.params
 abbrev pub IsWrittenIn : LayoutOf → WrittenType → Type 0
 IsWrittenIn l w = IsBaseIn l w.ty.base
 
+-- what is brought of a kind: a type, a field or a method of the layout
+abbrev pub IsBroughtOf : LayoutOf → StaticKind → Scope → Type 0
+IsBroughtOf l Types s = IsTypeScope l s
+IsBroughtOf l Fields s = IsMemberScope l FIELD s
+IsBroughtOf l Methods s = IsMemberScope l METH s
+
+-- ---- layouts
+
+-- the rows of a layout name one another, and the names of its static imports are numbered
+pub record IsNamedIn (l : LayoutOf) (count : ℕ) : Type 0 where
+  pub linked : IsLinked l
+  pub statics : (file : ℕ) → All (IsNumberedImport count) (statics_of l file)
+
 -- ---- rules
 
 -- whatever the answers, a rule asks queries of names alone, and ends with values of this kind
@@ -162,13 +181,24 @@ pub record AsksIn {U : Type 0} (l : LayoutOf) (count : ℕ) (E : U → Type 0) (
 -- the names of types
 abbrev pub TypeNamesStayIn : Type 0
 TypeNamesStayIn =
-    (l : LayoutOf) (count file : ℕ) (bodies : List Scope) (ids : List Ident) → file < length l.files → AreTypes l bodies → IsNumberedName count ids
-    → StaysIn l count (IsResolvedIn l TypeName) (type_name l file bodies ids)
+    (l : LayoutOf) (count file : ℕ) (bodies : List Scope) (ids : List Ident) → IsNamedIn l count → file < length l.files → AreTypes l bodies
+    → IsNumberedName count ids → StaysIn l count (IsResolvedIn l TypeName) (type_name l file bodies ids)
 
 -- the names of imports
 abbrev pub ImportsStayIn : Type 0
 ImportsStayIn =
     (l : LayoutOf) (count : ℕ) (all : Bool) (ids : List Ident) → IsNumberedName count ids → StaysIn l count (IsResolvedIn l (import_context all)) (import_name l all ids)
+
+-- what imports mean
+abbrev pub ImportRulesStayIn : Type 0
+ImportRulesStayIn =
+    (l : LayoutOf) (count : ℕ) (i : ImportTree) → IsNumberedImport count i → StaysIn l count (IsResolvedIn l (import_context (takes_packages i))) (import_rule l i)
+
+-- the static members of a name that the static imports of a file bring
+abbrev pub StaticsStayIn : Type 0
+StaticsStayIn =
+    (l : LayoutOf) (count file : ℕ) (all : Bool) (k : StaticKind) (n : NameId) → IsNamedIn l count → n.0 < count
+    → StaysIn l count (EndsOnly (IsBroughtOf l k)) (static_members l file all k n)
 
 -- whether a type is accessible
 abbrev pub TypeAccessStaysIn : Type 0
@@ -178,14 +208,14 @@ TypeAccessStaysIn =
 -- references to types
 abbrev pub ReferencesStayIn : Type 0
 ReferencesStayIn =
-    (l : LayoutOf) (count file : ℕ) (bodies : List Scope) (ids : List Ident) → file < length l.files → AreTypes l bodies → IsNumberedName count ids
-    → StaysIn l count (IsReferenceIn l TypeName) (reference l file bodies ids)
+    (l : LayoutOf) (count file : ℕ) (bodies : List Scope) (ids : List Ident) → IsNamedIn l count → file < length l.files → AreTypes l bodies
+    → IsNumberedName count ids → StaysIn l count (IsReferenceIn l TypeName) (reference l file bodies ids)
 
 -- types that are written
 abbrev pub WrittenTypesStayIn : Type 0
 WrittenTypesStayIn =
-    (l : LayoutOf) (count : ℕ) (names : List (List ℕ)) (file : ℕ) (bodies : List Scope) (t : TypeTree) → file < length l.files → AreTypes l bodies → IsNumberedType count t
-    → StaysIn l count (IsWrittenIn l) (written_type l names file bodies t)
+    (l : LayoutOf) (count : ℕ) (names : List (List ℕ)) (file : ℕ) (bodies : List Scope) (t : TypeTree) → IsNamedIn l count → file < length l.files → AreTypes l bodies
+    → IsNumberedType count t → StaysIn l count (IsWrittenIn l) (written_type l names file bodies t)
 
 -- the fields and the methods of a name in a type
 abbrev pub FieldsStayIn : Type 0
@@ -233,7 +263,7 @@ ResultsAskIn = (l : LayoutOf) (count : ℕ) (s t : Ty) → IsTyIn l s → AsksIn
 -- the superclass of a type by the names that it extends
 abbrev pub SuperclassesAskIn : Type 0
 SuperclassesAskIn =
-    (l : LayoutOf) (count : ℕ) (c : Scope) (ns : List (List Ident)) → IsLinked l → IsTypeScope l c → AreNumberedNames count ns
+    (l : LayoutOf) (count : ℕ) (c : Scope) (ns : List (List Ident)) → IsNamedIn l count → IsTypeScope l c → AreNumberedNames count ns
     → AsksIn l count (IsTypeScope l) (superclass l c ns)
 
 -- whether there is an enclosing instance

@@ -1,5 +1,5 @@
 -- What is read from an answer: the ends of the paths that count.
-use Rattle.std.specs.Prelude.{List, [], ◌∷◌, Bool, true, false, not, cond, ◌==◌, ◌&&◌, ◌||◌, map, fold, Option, Some, None}
+use Rattle.std.specs.Prelude.{ℕ, List, [], ◌∷◌, Bool, true, false, not, cond, ◌==◌, ◌&&◌, ◌||◌, map, fold, Option, Some, None}
 use Rattle.std.specs.List.{filter, list_all, list_any}
 use Rattle.sg_base.specs.declared.scope.Scope.{Scope}
 use Rattle.sg_base.specs.declared.step.Step.{Step}
@@ -37,14 +37,14 @@ opens_to l Protected outer t = is_scope (package_of l t) outer
 opens_to l PackageAccess outer t = is_scope (package_of l t) outer
 opens_to l Private outer t = false
 
--- whether the first step is an import on demand
-abbrev pub is_on_demand : List Step → Bool
-is_on_demand [] = false
-is_on_demand (p ∷ ps) = p.label == ODI
+-- the first step has this label
+abbrev pub begins_with : ℕ → List Step → Bool
+begins_with label [] = false
+begins_with label (p ∷ ps) = p.label == label
 
 -- a file sees the type at a path's end: not on demand, or one that is accessible from the file's package
 abbrev pub is_seen : LayoutOf → PathOf → Bool
-is_seen l p = not (is_on_demand p.steps) || opens_to l (access_of l (path_end p)) (package_of l p.start) (path_end p)
+is_seen l p = not (begins_with ODI p.steps) || opens_to l (access_of l (path_end p)) (package_of l p.start) (path_end p)
 
 -- what is looked for stands at the path's end: a package, a type, a field, a method or a constructor
 abbrev pub is_sought : LayoutOf → Counts → Place → Bool

@@ -15,14 +15,17 @@ use Rattle.jv_tree.specs.TypeTree.{TypeTree}
 use Rattle.jv_instance.specs.declared.ty.Ty.{Ty}
 use Rattle.jv_names.specs.declared.counts.Counts.TheVariants.{Methods}
 use Rattle.jv_names.specs.declared.kinds.TheConstants.{ABOVE, METHODS}
+use Rattle.jv_names.specs.declared.static_kind.StaticKind.{StaticKind}
 use Rattle.jv_names.specs.Access.{type_accessible, member_accessible}
 use Rattle.jv_names.specs.Instances.{has_enclosing}
 use Rattle.jv_names.specs.Kinds.{asked_by}
 use Rattle.jv_names.specs.Members.{all_methods, field, find_ends, methods}
-use Rattle.jv_names.specs.Names.{type_name, import_name}
+use Rattle.jv_names.specs.Names.{import_name}
 use Rattle.jv_names.specs.Read.{signature_of, supers_of, result_fits, ctor_of}
 use Rattle.jv_names.specs.Replies.{Rule, for_any, for_name}
+use Rattle.jv_names.specs.Statics.{static_members}
 use Rattle.jv_names.specs.Superclass.{superclass}
+use Rattle.jv_names.specs.TypeNames.{type_name}
 use Rattle.jv_names.specs.WrittenTypes.{written_type}
 
 -- the query has this answer in the graph
@@ -41,6 +44,10 @@ TypeNamesReadOnlyTheirQueries = (l : LayoutOf) (file : ℕ) (bodies : List Scope
 -- the rule of what the name of an import means looks at a graph by its own queries alone
 abbrev pub ImportsReadOnlyTheirQueries : Type 0
 ImportsReadOnlyTheirQueries = (l : LayoutOf) (all : Bool) (ids : List Ident) → ReadsOnlyItsQueries (import_name l all ids)
+
+-- the rule of the static members of a name that a file's static imports bring looks at a graph by its own queries alone
+abbrev pub StaticMembersReadOnlyTheirQueries : Type 0
+StaticMembersReadOnlyTheirQueries = (l : LayoutOf) (file : ℕ) (all : Bool) (k : StaticKind) (n : NameId) → ReadsOnlyItsQueries (static_members l file all k n)
 
 -- the rule of whether a type is accessible looks at a graph by its own queries alone
 abbrev pub TypeAccessReadsOnlyItsQueries : Type 0

@@ -7,6 +7,9 @@ pub mod Known
 pub mod Law
 pub mod Members
 pub mod Names
+pub mod Statics
+pub mod TypeNames
+pub mod Decided
 pub mod Parts
 pub mod Replies
 pub mod Bodies

@@ -1,16 +1,17 @@
--- The meaning of the names of types, and of imports (JLS 6.5, 7.5).
-use Rattle.std.specs.Prelude.{ℕ, List, [], ◌∷◌, ◌++◌, Bool, true, false}
+-- The meaning of the parts of names, and of the names of imports (JLS 6.5, 7.5).
+use Rattle.std.specs.Prelude.{List, [], ◌∷◌, ◌++◌, Bool, true, false, not, cond, ◌&&◌}
 use Rattle.sg_base.specs.declared.scope.Scope.{Scope}
 use Rattle.sg_query.specs.declared.query.Query.{Query}
 use Rattle.sg_reading.specs.Reading.{done, ask, and_then}
 use Rattle.jv_instance.specs.declared.pred.JavaPred.{JavaPred}
 use Rattle.jv_layout.specs.Folder.{LayoutOf}
-use Rattle.jv_layout.specs.Scopes.{root_scope, file_scope}
+use Rattle.jv_layout.specs.Scopes.{root_scope}
 use Rattle.jv_tree.specs.declared.name.Ident.{Ident}
 use Rattle.jv_tree.specs.declared.names.NameId.{NameId}
+use Rattle.jv_tree.specs.DeclTree.{ImportTree}
 use Rattle.jv_names.specs.declared.counts.Counts.{Counts}
-use Rattle.jv_names.specs.declared.counts.Counts.TheVariants.{OwnPackages, OwnTypes, MemberTypes, FileTypes}
-use Rattle.jv_names.specs.declared.kinds.TheConstants.{SUBPKG, OWNTYPE, MEMTYPE, FILETYPE}
+use Rattle.jv_names.specs.declared.counts.Counts.TheVariants.{OwnPackages, OwnTypes, MemberTypes}
+use Rattle.jv_names.specs.declared.kinds.TheConstants.{SUBPKG, OWNTYPE, MEMTYPE}
 use Rattle.jv_names.specs.declared.meaning.Meaning.{Meaning}
 use Rattle.jv_names.specs.declared.meaning.Meaning.TheVariants.{One, Nothing, Ambiguous, TooMany}
 use Rattle.jv_names.specs.declared.context.Context.{Context}
@@ -20,12 +21,13 @@ use Rattle.jv_names.specs.declared.qualifier.Qualifier.TheVariants.{InPackage, I
 use Rattle.jv_names.specs.declared.resolved.Resolved.{Resolved}
 use Rattle.jv_names.specs.Ends.{answer_meaning}
 use Rattle.jv_names.specs.Replies.{Rule, for_name}
+use Rattle.jv_names.specs.Written.{without_last}
 
 -- the meaning by one query: by the ends that count
 unfoldable pub look_up : LayoutOf → Counts → Query JavaPred → Rule Meaning
 look_up l c q = ask q (λ a. done (answer_meaning l c a))
 
--- ---- simple names of types (JLS 6.5.5.1)
+-- ---- one part
 
 -- where nothing was found, the next rule
 abbrev pub or_next : Meaning → Rule Meaning → Rule Meaning
@@ -34,18 +36,9 @@ or_next (One s) next = done (One s)
 or_next Ambiguous next = done Ambiguous
 or_next TooMany next = done TooMany
 
--- a type that a file sees by its simple name
-abbrev pub file_type : LayoutOf → ℕ → NameId → Rule Meaning
-file_type l file n = look_up l FileTypes (for_name FILETYPE (file_scope l file) n)
-
 -- a member type of a type
 abbrev pub member_type : LayoutOf → Scope → NameId → Rule Meaning
 member_type l t n = look_up l MemberTypes (for_name MEMTYPE t n)
-
--- a simple name: a member type of the enclosing bodies, innermost first, and else a type that the file sees
-abbrev pub simple_type : LayoutOf → ℕ → List Scope → NameId → Rule Meaning
-simple_type l file [] n = file_type l file n
-simple_type l file (b ∷ bs) n = and_then (member_type l b n) (λ m. or_next m (simple_type l file bs n))
 
 -- ---- names with dots (JLS 6.5.3, 6.5.5.2)
 
@@ -94,18 +87,7 @@ further_parts l context (InPackage p) types (n ∷ ns) =
 abbrev pub from_root : LayoutOf → Context → Ident → List Ident → Rule Resolved
 from_root l context n ns = and_then (subpackage l root_scope n.id) (λ k. on_one k [] (λ q. further_parts l context (InPackage q) [] ns) (ended Nothing []))
 
--- what follows where the first part of a name means no type: a package of the root, if further parts follow
-abbrev pub not_a_type : LayoutOf → Ident → List Ident → Rule Resolved
-not_a_type l n [] = ended Nothing []
-not_a_type l n (k ∷ ks) = from_root l TypeName n (k ∷ ks)
-
--- the name of a type: its first part as a simple name, or else as a package of the root, and then the further parts
-abbrev pub type_name : LayoutOf → ℕ → List Scope → List Ident → Rule Resolved
-type_name l file bodies [] = ended Nothing []
-type_name l file bodies (n ∷ ns) =
-    and_then (simple_type l file bodies n.id) (λ m. on_one m [] (λ s. further_parts l TypeName (InType s) (s ∷ []) ns) (not_a_type l n ns))
-
--- ---- imports (JLS 7.5.1, 7.5.2)
+-- ---- imports (JLS 7.5)
 
 -- what kind of import it is
 abbrev pub import_context : Bool → Context
@@ -116,3 +98,15 @@ import_context false = SingleImport
 abbrev pub import_name : LayoutOf → Bool → List Ident → Rule Resolved
 import_name l all [] = ended Nothing []
 import_name l all (n ∷ ns) = from_root l (import_context all) n ns
+
+-- the name that an import looks up: of a single static one without what it brings
+abbrev pub sought_ids : ImportTree → List Ident
+sought_ids i = cond (i.is_static && not i.all) (without_last i.name) i.name
+
+-- whether an import may name a package: one on demand that is not static
+abbrev pub takes_packages : ImportTree → Bool
+takes_packages i = not i.is_static && i.all
+
+-- what an import means: the type or the package that it names, and for a static one the type whose members it brings
+abbrev pub import_rule : LayoutOf → ImportTree → Rule Resolved
+import_rule l i = import_name l (takes_packages i) (sought_ids i)

@@ -11,8 +11,8 @@ use Rattle.jv_names.specs.declared.meaning.Meaning.{Meaning}
 use Rattle.jv_names.specs.declared.meaning.Meaning.TheVariants.{One, Nothing, Ambiguous, TooMany}
 use Rattle.jv_names.specs.declared.reference.Reference.{Reference}
 use Rattle.jv_names.specs.Access.{type_accessible}
-use Rattle.jv_names.specs.Names.{type_name}
 use Rattle.jv_names.specs.Replies.{Rule}
+use Rattle.jv_names.specs.TypeNames.{type_name}
 use Rattle.jv_names.specs.Written.{written, start_of}
 
 -- behind those so far, the types that are not accessible at the place

@@ -8,8 +8,8 @@ use Rattle.jv_tree.specs.declared.name.Ident.{Ident}
 use Rattle.jv_names.specs.declared.meaning.Meaning.{Meaning}
 use Rattle.jv_names.specs.declared.meaning.Meaning.TheVariants.{One, Nothing, Ambiguous, TooMany}
 use Rattle.jv_names.specs.Bodies.{header_bodies}
-use Rattle.jv_names.specs.Names.{type_name}
 use Rattle.jv_names.specs.Replies.{Rule}
+use Rattle.jv_names.specs.TypeNames.{type_name}
 
 -- the superclass by what the first name of the extends clause means: that type, even where it is an interface, and `Object` where it means none
 abbrev pub meant_superclass : LayoutOf → Meaning → Scope

@@ -3,7 +3,7 @@
 ghost use Rattle.std.specs.Prelude.{◌≡◌, ◌+◌, ◌<◌, drop, length, slice_index_or};
 ghost use Rattle.sg_query.specs.declared.found.Found.{Found as FoundOf};
 ghost use Rattle.jv_layout.specs.Fits.{fits};
-ghost use Rattle.jv_names.specs.Ends.{opens_to, is_on_demand, is_seen, is_sought, passes, is_counted, counted_ends, led_by};
+ghost use Rattle.jv_names.specs.Ends.{opens_to, begins_with, is_seen, is_sought, passes, is_counted, counted_ends, led_by};
 ghost use Rattle.jv_names.specs.Inherited.{IsStaying};
 ghost use Rattle.jv_names.specs.Known.{IsFitting, AreKnown};
 
@@ -16,7 +16,7 @@ use sg_base::{PathView, Scope};
 use sg_query::FoundPaths;
 
 /// Whether a type may be imported on demand into a package, by its access.
-fn opens_to(l: &Layout, access: Access, outer: Scope, t: Scope) -> bool
+pub(crate) fn opens_to(l: &Layout, access: Access, outer: Scope, t: Scope) -> bool
     ensures { result ≡ opens_to l.now access outer t }
 {
     match access {
@@ -27,24 +27,24 @@ fn opens_to(l: &Layout, access: Access, outer: Scope, t: Scope) -> bool
     }
 }
 
-/// Whether the first step is an import on demand.
-fn is_on_demand(path: &PathView<'_>) -> bool
-    ensures { result ≡ is_on_demand path.now.steps }
+/// Whether the first step has a label. It takes time in the number of steps.
+pub(crate) fn begins_with(label: u8, path: &PathView<'_>) -> bool
+    ensures { result ≡ begins_with label path.now.steps }
 {
     let mut found = false;
     let mut at = path.copy();
     while let Some((before, step)) = at.split_last() {
-        found = step.label.number() == labels::ODI;
+        found = step.label.number() == label;
         at = before;
     }
     found
 }
 
 /// Whether a file sees the type at a path's end.
-fn is_seen(l: &Layout, path: &PathView<'_>) -> bool
+pub(crate) fn is_seen(l: &Layout, path: &PathView<'_>) -> bool
     ensures { result ≡ is_seen l.now path.now }
 {
-    if !is_on_demand(path) {
+    if !begins_with(labels::ODI, path) {
         return true;
     }
     let end = path.end();
@@ -52,7 +52,7 @@ fn is_seen(l: &Layout, path: &PathView<'_>) -> bool
 }
 
 /// Whether what is looked for stands at a place.
-fn is_sought(l: &Layout, counts: Counts, place: Place) -> bool
+pub(crate) fn is_sought(l: &Layout, counts: Counts, place: Place) -> bool
     ensures { result ≡ is_sought l.now counts place }
 {
     match counts {

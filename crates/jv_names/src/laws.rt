@@ -1,7 +1,7 @@
 //! Laws of the rules of names, each the contract of a function that does nothing.
 
-ghost use Rattle.jv_names.specs.Bounds.{TypeNamesStayIn, ImportsStayIn, TypeAccessStaysIn, ReferencesStayIn, WrittenTypesStayIn, FieldsStayIn, AllMethodsStayIn, MethodsStayIn, MembersAmongStayIn, MemberAccessStaysIn, SignaturesAskIn, CtorsAskIn, SupersAskIn, ResultsAskIn, SuperclassesAskIn, InstancesAskIn, BodiesAreTypes, InstanceBodiesAreTypes};
-ghost use Rattle.jv_names.specs.Law.{TypeNamesReadOnlyTheirQueries, ImportsReadOnlyTheirQueries, TypeAccessReadsOnlyItsQueries, FieldsReadOnlyTheirQueries, InheritedMethodsReadOnlyTheirQueries, MethodsReadOnlyTheirQueries, MethodsAboveReadOnlyTheirQueries, AllMethodsReadOnlyTheirQueries, MemberAccessReadsOnlyItsQueries, WrittenTypesReadOnlyTheirQueries, ReadSignaturesReadOnlyTheirQueries, CtorsReadOnlyTheirQueries, SupersReadOnlyTheirQueries, ResultsReadOnlyTheirQueries, SuperclassesReadOnlyTheirQueries, InstancesReadOnlyTheirQueries};
+ghost use Rattle.jv_names.specs.Bounds.{TypeNamesStayIn, ImportsStayIn, ImportRulesStayIn, StaticsStayIn, TypeAccessStaysIn, ReferencesStayIn, WrittenTypesStayIn, FieldsStayIn, AllMethodsStayIn, MethodsStayIn, MembersAmongStayIn, MemberAccessStaysIn, SignaturesAskIn, CtorsAskIn, SupersAskIn, ResultsAskIn, SuperclassesAskIn, InstancesAskIn, BodiesAreTypes, InstanceBodiesAreTypes};
+ghost use Rattle.jv_names.specs.Law.{TypeNamesReadOnlyTheirQueries, ImportsReadOnlyTheirQueries, StaticMembersReadOnlyTheirQueries, TypeAccessReadsOnlyItsQueries, FieldsReadOnlyTheirQueries, InheritedMethodsReadOnlyTheirQueries, MethodsReadOnlyTheirQueries, MethodsAboveReadOnlyTheirQueries, AllMethodsReadOnlyTheirQueries, MemberAccessReadsOnlyItsQueries, WrittenTypesReadOnlyTheirQueries, ReadSignaturesReadOnlyTheirQueries, CtorsReadOnlyTheirQueries, SupersReadOnlyTheirQueries, ResultsReadOnlyTheirQueries, SuperclassesReadOnlyTheirQueries, InstancesReadOnlyTheirQueries};
 
 /// The meaning of the name of a type looks at a graph only by the queries that it asks.
 pub fn resolve_type_reads_only_its_queries()
@@ -11,6 +11,11 @@ pub fn resolve_type_reads_only_its_queries()
 /// The meaning of an import looks at a graph only by the queries that it asks.
 pub fn resolve_import_reads_only_its_queries()
     ensures { ImportsReadOnlyTheirQueries }
+{}
+
+/// The static members of a name that a file's static imports bring look at a graph only by the queries that they ask.
+pub fn static_members_reads_only_its_queries()
+    ensures { StaticMembersReadOnlyTheirQueries }
 {}
 
 /// Whether a type is accessible looks at a graph only by the queries that it asks.
@@ -54,14 +59,17 @@ pub fn resolve_written_type_reads_only_its_queries()
 {}
 
 /// Whatever the answers, the rules of names and of access ask from the root, packages, files and types of the layout alone,
-/// never for signatures, and only for names that are numbered. What a name means is a type of the layout, and in an import
-/// on demand a type or a package. A type that is written has a type of the layout as its base, or no class.
+/// never for signatures, and only for names that are numbered; where static imports are looked into, their names are numbered
+/// too. What a name means is a type of the layout, and in an import on demand a type or a package. A type that is written has a
+/// type of the layout as its base, or no class. What static imports bring are types, fields and methods of the layout.
 pub fn rules_ask_in_the_layout()
     ensures type_names { TypeNamesStayIn }
     ensures imports { ImportsStayIn }
     ensures access { TypeAccessStaysIn }
     ensures references { ReferencesStayIn }
     ensures written_types { WrittenTypesStayIn }
+    ensures import_rules { ImportRulesStayIn }
+    ensures statics { StaticsStayIn }
 {}
 
 /// Whatever the answers, the rules of members ask queries of names alone, from types of the layout: the field and the methods

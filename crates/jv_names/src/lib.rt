@@ -3,7 +3,8 @@
 //! A rule of a name is a reading: it asks queries in the order of the sentence that states it, and ends with a value. No rule
 //! sees a graph: what it comes to is known from the replies so far, and where one is missing it names the query.
 //! `specs/Kinds.antt` says what each kind of query follows, `specs/Ends.antt` what counts in an answer, `specs/Names.antt`
-//! what the name of a type and of an import means, `specs/WrittenTypes.antt` what a type that is written means,
+//! what the parts of a name and the name of an import mean, `specs/TypeNames.antt` what the name of a type means,
+//! `specs/Statics.antt` which members static imports bring, `specs/WrittenTypes.antt` what a type that is written means,
 //! `specs/Members.antt` which field and methods a name means in a class, and `specs/Access.antt` what is accessible where.
 //! What members and expressions read beside names stands here too: `specs/Read.antt` has the signatures of members, the
 //! supertypes of classes and which result fits another one, `specs/Chosen.antt` which of several methods counts,
@@ -18,6 +19,7 @@ mod counted_ends;
 mod counting;
 mod counts;
 mod ends;
+mod file_types;
 mod imports;
 mod inheriting;
 mod instances;
@@ -41,6 +43,8 @@ mod results;
 mod scope_list;
 mod signature_types;
 mod spot;
+mod static_kind;
+mod statics;
 mod superclass;
 mod supers;
 mod type_names;
@@ -76,8 +80,10 @@ pub use results::read_result_fits;
 pub use scope_list::ScopeList;
 pub use signature_types::ReadSignature;
 pub use spot::Spot;
+pub use static_kind::StaticKind;
+pub use statics::{read_static_members, read_statics_of_type, static_members};
 pub use superclass::read_superclass;
 pub use supers::read_supers;
 pub use type_names::{read_type, resolve_type, simple_type};
-pub use writing::{start_of, written};
+pub use writing::{last_name, start_of, written};
 pub use written_type::{WrittenType, read_written_type, resolve_written_type};

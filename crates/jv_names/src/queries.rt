@@ -1,9 +1,9 @@
 //! The meaning by one query.
 
-ghost use Rattle.std.specs.Prelude.{◌≡◌, ◌<◌, ◌^◌, Some, None, MatchResult};
+ghost use Rattle.std.specs.Prelude.{◌≡◌, Some, None, MatchResult};
 ghost use Rattle.sg_reading.specs.declared.stop.Stop.TheVariants.{NoReply};
 ghost use Rattle.sg_reading.specs.Stop.{Reads};
-ghost use Rattle.jv_names.specs.Names.{look_up, file_type, member_type, package_type, subpackage};
+ghost use Rattle.jv_names.specs.Names.{look_up, member_type, package_type, subpackage};
 ghost use Rattle.jv_names.specs.Replies.{reply_to, for_name, for_any};
 
 use crate::answers::answer_meaning;
@@ -61,24 +61,6 @@ pub fn look_up(
 {
     let answer = ask(o, query)?;
     Ok(answer_meaning(l, counts, answer))
-}
-
-/// A type that a file sees by its simple name.
-pub fn file_type(
-    l: &Layout,
-    o: &Oracle,
-    file: u32,
-    name: NameId,
-) -> Result<Meaning, Stop<Query<JavaPred>>>
-    requires { file < 2 ^ 31 }
-    ensures { Reads (reply_to o.now) (file_type l.now file name) result }
-{
-    look_up(
-        l,
-        o,
-        Counts::FileTypes,
-        for_name(kinds::FILETYPE, l.file_scope(file), name),
-    )
 }
 
 /// A member type of a type.

@@ -118,7 +118,7 @@ fn read_is_replaced(
 }
 
 /// The scopes that are kept, with one more where that is not gone.
-fn kept_with(
+pub(crate) fn kept_with(
     mut kept: ScopeSet,
     gone: bool,
     scope: Scope,

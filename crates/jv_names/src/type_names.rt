@@ -3,15 +3,16 @@
 ghost use Rattle.std.specs.Prelude.{◌≡◌, ◌<◌, ◌^◌, IfOk};
 ghost use Rattle.sg_reading.specs.Stop.{Reads, IsKnown};
 ghost use Rattle.jv_tree.specs.TypeTree.{ids_of};
-ghost use Rattle.jv_names.specs.Names.{simple_type, not_a_type, type_name};
 ghost use Rattle.jv_names.specs.Replies.{reply_to};
+ghost use Rattle.jv_names.specs.TypeNames.{simple_type, not_a_type, type_name};
 
 use crate::context::Context;
+use crate::file_types::file_type;
 use crate::meaning::Meaning;
 use crate::oracle::Oracle;
 use crate::parts::{from_root, further_parts, pushed};
 use crate::qualifier::Qualifier;
-use crate::queries::{file_type, member_type};
+use crate::queries::member_type;
 use crate::resolved::Resolved;
 use crate::scope_list::ScopeList;
 use crate::spot::Spot;
@@ -26,6 +27,7 @@ use std::alloc::{AllocError, Global};
 /// name, and else a type that the file sees.
 #[tactic(auto, using(crate::proofs::Steps::name_steps))]
 pub fn simple_type(
+    alloc: Global,
     l: &Layout,
     o: &Oracle,
     spot: &Spot,
@@ -40,7 +42,7 @@ pub fn simple_type(
             return Ok(m);
         }
     }
-    file_type(l, o, spot.file, name)
+    file_type(alloc, l, o, spot.file, name)
 }
 
 /// What follows where the first part of a name means no type.
@@ -83,7 +85,7 @@ pub fn read_type(
             types,
         }),
         Some((first, rest)) => {
-            let m = simple_type(l, o, spot, first.id)?;
+            let m = simple_type(alloc, l, o, spot, first.id)?;
             match m {
                 Meaning::One(s) => further_parts(
                     l,

@@ -4,10 +4,10 @@ ghost use Rattle.std.specs.Prelude.{◌≡◌, ◌++◌, IfOk, OnOk};
 ghost use Rattle.std.specs.String.{string_bytes};
 ghost use Rattle.jv_layout.specs.Folder.{numbers_of};
 ghost use Rattle.jv_layout.specs.Titles.{following};
-ghost use Rattle.jv_names.specs.Written.{written, start_of};
+ghost use Rattle.jv_names.specs.Written.{written, start_of, last_name, without_last};
 
 use jv_layout::text_of;
-use jv_tree::{Ident, Names};
+use jv_tree::{Ident, NameId, Names};
 use std::alloc::{AllocError, Global};
 
 /// Adds a dot and a text for each identifier.
@@ -42,5 +42,25 @@ pub fn start_of(ids: &[Ident]) -> u32
     match ids.first() {
         Some(ident) => ident.at,
         None => 0,
+    }
+}
+
+/// The last identifier of a name; a number that stands for none where the name has no identifier.
+pub fn last_name(ids: &[Ident]) -> NameId
+    ensures { result ≡ last_name ids.now }
+{
+    match ids.split_last() {
+        Some((last, _)) => last.id,
+        None => NameId(0),
+    }
+}
+
+/// A name without its last identifier. It takes no memory.
+pub(crate) fn without_last(ids: &[Ident]) -> &[Ident]
+    ensures { result.now ≡ without_last ids.now }
+{
+    match ids.split_last() {
+        Some((_, before)) => before,
+        None => &[],
     }
 }

@@ -12,4 +12,8 @@ mod small_folder;
 #[cfg(test)]
 mod small_replies;
 #[cfg(test)]
+mod static_folder;
+#[cfg(test)]
+mod static_tests;
+#[cfg(test)]
 mod tests;

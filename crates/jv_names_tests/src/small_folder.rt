@@ -90,7 +90,8 @@ fn mods(alloc: Global, words: &[u8]) -> Result<Mods, AllocError> {
     })
 }
 
-fn field_of(alloc: Global, words: &[u8], number: u32) -> Result<Member, AllocError>
+/// A field of the type `int`.
+pub fn field_of(alloc: Global, words: &[u8], number: u32) -> Result<Member, AllocError>
     ensures { IfOk result (λ m. (rest : MemberTrees) → body_names (members (member_tree m) rest) ≡ 1 + body_names rest) }
 {
     let variables = vec![in alloc; variable(ident(number), None)]?;
@@ -139,7 +140,8 @@ fn class_of(
     type_of(alloc, words, number, false, members)
 }
 
-fn member_class(alloc: Global, words: &[u8], number: u32) -> Result<Member, AllocError>
+/// A member class without members.
+pub fn member_class(alloc: Global, words: &[u8], number: u32) -> Result<Member, AllocError>
     ensures { IfOk result (λ m. (rest : MemberTrees) → body_names (members (member_tree m) rest) ≡ 1 + body_names rest) }
 {
     let decl = class_of(alloc, words, number, Vec::new(alloc))?;

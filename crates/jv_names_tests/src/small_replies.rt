@@ -57,7 +57,7 @@ fn put_replies_of(
 }
 
 /// The replies to all queries of all kinds for each name, from the scopes of packages, files and types.
-fn all_replies(alloc: Global) -> Result<Oracle, AllocError> {
+pub fn all_replies(alloc: Global) -> Result<Oracle, AllocError> {
     let graph = small_graph(alloc)?;
     let table = java_kinds(alloc)?;
     let mut oracle = Oracle::new(alloc);

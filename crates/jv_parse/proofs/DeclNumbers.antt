@@ -5,7 +5,7 @@ use Rattle.jv_tree.specs.ExprTree.{ExprTrees}
 use Rattle.jv_tree.specs.StmtTree.{VarTree, StmtTrees}
 use Rattle.jv_tree.specs.DeclTree.{ParamTree, TypeDeclTree, MemberTree, MemberTrees, ImportTree, UnitTree}
 use Rattle.jv_grammar.specs.declared.terminal.Terminal.{Terminal}
-use Rattle.jv_grammar.specs.DeclGrammar.{DerivesMods, mods_none, mods_more, DerivesParam, param_plain, param_final, DerivesSomeParams, some_params_one, some_params_more, DerivesParams, params_none, params_some, DerivesBody, body_block, body_none, DerivesCtor, ctor_plain, ctor_super, DerivesConstants, constants_one, constants_more, DerivesParent, parent_none, parent_some, DerivesParents, parents_none, parents_some, DerivesInterfaces, interfaces_none, interfaces_some, DerivesType, type_class, type_interface, DerivesClass, class, DerivesInterface, interface, DerivesMembers, members_none, members_more, members_empty, DerivesMember, member_type, member_field, member_method, member_ctor, DerivesImembers, imembers_none, imembers_more, imembers_empty, DerivesImember, imember_type, imember_field, imember_method, DerivesPackage, package_none, package_some, DerivesImport, import_one, import_all, DerivesImports, imports_none, imports_more, DerivesTypes, types_none, types_more, types_empty, Derives, file}
+use Rattle.jv_grammar.specs.DeclGrammar.{DerivesMods, mods_none, mods_more, DerivesParam, param_plain, param_final, DerivesSomeParams, some_params_one, some_params_more, DerivesParams, params_none, params_some, DerivesBody, body_block, body_none, DerivesCtor, ctor_plain, ctor_super, DerivesConstants, constants_one, constants_more, DerivesParent, parent_none, parent_some, DerivesParents, parents_none, parents_some, DerivesInterfaces, interfaces_none, interfaces_some, DerivesType, type_class, type_interface, DerivesClass, class, DerivesInterface, interface, DerivesMembers, members_none, members_more, members_empty, DerivesMember, member_type, member_field, member_method, member_ctor, DerivesImembers, imembers_none, imembers_more, imembers_empty, DerivesImember, imember_type, imember_field, imember_method, DerivesPackage, package_none, package_some, DerivesImport, import_one, import_all, import_static_one, import_static_all, DerivesImports, imports_none, imports_more, DerivesTypes, types_none, types_more, types_empty, Derives, file}
 use Rattle.std.specs.List.{All}
 use Rattle.std.proofs.lemmas.List.Elements.{All-cons, All-nil}
 use Rattle.jv_tree.specs.Numbered.{IsNumberedName, AreNumberedNames, IsNumberedVar, AreNumberedStmts, IsNumberedParam, IsNumberedBody, IsNumberedCall, IsNumberedDecl, IsNumberedMember, AreNumberedMembers, IsNumberedPackage, IsNumberedImport, IsNumbered}
@@ -94,6 +94,8 @@ module _ (n : ℕ) where
   pub numbered_import : {x : ImportTree} {xs ys : List Terminal} → DerivesImport x xs ys → AreNumberedTerminals n xs → IsNumberedImport n x × AreNumberedTerminals n ys
   numbered_import (import_one d) h = numbered_name n d h
   numbered_import (import_all d) h = numbered_name n d h
+  numbered_import (import_static_one d l) h = numbered_name n d h
+  numbered_import (import_static_all d) h = numbered_name n d h
 
   pub numbered_imports : {is : List ImportTree} {xs ys : List Terminal} → DerivesImports is xs ys → AreNumberedTerminals n xs → All (IsNumberedImport n) is × AreNumberedTerminals n ys
   numbered_imports imports_none h = (All-nil (IsNumberedImport n), h)

@@ -53,8 +53,8 @@ module _ (n i : ℕ) (items : List Import) (xs : List Terminal) (h : i < n) wher
     imports_next x ys r = onto_push import_tree items x (imports_of (n - (i + 1)) ys) ∙ sym (rw (imports_now, s, ← at, r) refl)
 
 -- the identifiers of an import's name that are read already, in front of what is read behind them
-abbrev pub path_onto : List Identifier → Reads ImportTree → Reads ImportTree
-path_onto front r = r >>= λ s. Ok (record { name = front ++ s.0.name; all = s.0.all; is_static = s.0.is_static }, s.1)
+abbrev pub path_onto : Bool → List Identifier → Reads ImportTree → Reads ImportTree
+path_onto is_static front r = r >>= λ s. Ok (record { name = front ++ s.0.name; all = s.0.all; is_static = is_static }, s.1)
 
 abbrev pub some_path : List Terminal → Bool → Bool → List Identifier → Reads ImportTree
 some_path ys all is_static ids = Ok (record { name = ids; all = all; is_static = is_static }, ys)
@@ -65,53 +65,79 @@ path_read ys t = Ok (t, ys)
 abbrev pub no_path : List Terminal → Reads ImportTree
 no_path xs = Err xs
 
-path_nil : (r : Reads ImportTree) → path_onto [] r ≡ r
-path_nil (Ok s) = refl
-path_nil (Err e) = refl
+path_push : (is_static : Bool) (ids : List Identifier) (i : Identifier) (r : Reads ImportTree)
+    → path_onto is_static (ids ++ i ∷ []) r ≡ path_onto is_static ids (r >>= λ s. some_path s.1 s.0.all is_static (i ∷ s.0.name))
+path_push is_static ids i (Ok s) = ap (some_path s.1 s.0.all is_static) (append_assoc ids (i ∷ []) s.0.name)
+path_push is_static ids i (Err e) = refl
 
-path_push : (ids : List Identifier) (i : Identifier) (r : Reads ImportTree)
-    → path_onto (ids ++ i ∷ []) r ≡ path_onto ids (r >>= λ s. some_path s.1 s.0.all s.0.is_static (i ∷ s.0.name))
-path_push ids i (Ok s) = ap (some_path s.1 s.0.all s.0.is_static) (append_assoc ids (i ∷ []) s.0.name)
-path_push ids i (Err e) = refl
+-- what is read behind an identifier and a dot, by whether a star stands there
+abbrev path_dotted : Bool → ℕ → Identifier → List Terminal → Bool → Reads ImportTree
+path_dotted is_static c i xs starred =
+    if starred then some_path (rest_of xs) true is_static (i ∷ []) else (path_of is_static c xs >>= λ r. some_path r.1 r.0.all is_static (i ∷ r.0.name))
 
-abbrev path_turn : ℕ → List Terminal → Reads ImportTree
-path_turn c xs = ident_of xs >>= λ i.
-    if starts dot i.1
-    then (if starts star (rest_of i.1) then some_path (rest_of (rest_of i.1)) true false (i.0 ∷ [])
-    else (path_of c (rest_of i.1) >>= λ r. some_path r.1 r.0.all r.0.is_static (i.0 ∷ r.0.name)))
-    else some_path i.1 false false (i.0 ∷ [])
+-- what is read behind an identifier, by whether a dot stands there
+abbrev path_behind : Bool → ℕ → Identifier × List Terminal → Bool → Reads ImportTree
+path_behind is_static c i dotted =
+    if dotted then path_dotted is_static c i.0 (rest_of i.1) (starts star (rest_of i.1)) else some_path i.1 false is_static (i.0 ∷ [])
 
-path_at : (c : ℕ) (xs : List Terminal) → path_of (suc c) xs ≡ path_turn c xs
+abbrev path_turn : Bool → ℕ → List Terminal → Reads ImportTree
+path_turn is_static c xs = ident_of xs >>= λ i. path_behind is_static c i (starts dot i.1)
+
+path_at : (is_static : Bool) (c : ℕ) (xs : List Terminal) → path_of is_static (suc c) xs ≡ path_turn is_static c xs
 unfolding path_of
-path_at c xs = refl
+path_at is_static c xs = refl
 
-path_zero : (xs : List Terminal) → path_of zero xs ≡ no_path xs
+path_zero : (is_static : Bool) (xs : List Terminal) → path_of is_static zero xs ≡ no_path xs
 unfolding path_of
-path_zero xs = refl
+path_zero is_static xs = refl
 
-pub path_begin : (n : ℕ) (ids : List Identifier) (xs : List Terminal) → ids ≡ [] → path_onto ids (path_of (n - 0) xs) ≡ path_of n xs
-path_begin n ids xs none = let e : n - 0 ≡ n = omega arith in rw (none, e) (path_nil (path_of n xs))
+-- all of a name is static, or nothing of it
+module _ (is_static : Bool) (c : ℕ) where
+  same_longer : (i : Identifier) (r : Reads ImportTree)
+      → path_onto is_static [] (r >>= λ s. some_path s.1 s.0.all is_static (i ∷ s.0.name)) ≡ (r >>= λ s. some_path s.1 s.0.all is_static (i ∷ s.0.name))
+  same_longer i (Ok s) = refl
+  same_longer i (Err e) = refl
 
-pub path_over : (n i : ℕ) (ids : List Identifier) (xs : List Terminal) → n ≤ i → path_onto ids (path_of (n - i) xs) ≡ no_path xs
-path_over n i ids xs h = let e : n - i ≡ zero = omega arith in rw (e, path_zero xs) refl
+  same_dotted : (i : Identifier) (xs : List Terminal) (starred : Bool) → path_onto is_static [] (path_dotted is_static c i xs starred) ≡ path_dotted is_static c i xs starred
+  same_dotted i xs true = refl
+  same_dotted i xs false = same_longer i (path_of is_static c xs)
 
-module _ (n i : ℕ) (ids : List Identifier) (xs : List Terminal) (h : i < n) where
-  path_now : path_of (n - i) xs ≡ path_turn (n - (i + 1)) xs
-  path_now = let e : n - i ≡ suc (n - (i + 1)) = omega arith in ap (λ k. path_of k xs) e ∙ path_at (n - (i + 1)) xs
+  same_behind : (i : Identifier × List Terminal) (dotted : Bool) → path_onto is_static [] (path_behind is_static c i dotted) ≡ path_behind is_static c i dotted
+  same_behind i true = same_dotted i.0 (rest_of i.1) (starts star (rest_of i.1))
+  same_behind i false = refl
 
-  pub path_refused : starts_ident xs ≡ false → path_onto ids (path_of (n - i) xs) ≡ no_path xs
+  same_turn : (r : Reads Identifier)
+      → path_onto is_static [] (r >>= λ i. path_behind is_static c i (starts dot i.1)) ≡ (r >>= λ i. path_behind is_static c i (starts dot i.1))
+  same_turn (Ok i) = same_behind i (starts dot i.1)
+  same_turn (Err e) = refl
+
+path_same : (is_static : Bool) (n : ℕ) (xs : List Terminal) → path_onto is_static [] (path_of is_static n xs) ≡ path_of is_static n xs
+path_same is_static zero xs = rw (path_zero is_static xs) refl
+path_same is_static (suc c) xs = rw (path_at is_static c xs) (same_turn is_static c (ident_of xs))
+
+pub path_begin : (is_static : Bool) (n : ℕ) (ids : List Identifier) (xs : List Terminal) → ids ≡ [] → path_onto is_static ids (path_of is_static (n - 0) xs) ≡ path_of is_static n xs
+path_begin is_static n ids xs none = let e : n - 0 ≡ n = omega arith in rw (none, e) (path_same is_static n xs)
+
+pub path_over : (is_static : Bool) (n i : ℕ) (ids : List Identifier) (xs : List Terminal) → n ≤ i → path_onto is_static ids (path_of is_static (n - i) xs) ≡ no_path xs
+path_over is_static n i ids xs h = let e : n - i ≡ zero = omega arith in rw (e, path_zero is_static xs) refl
+
+module _ (is_static : Bool) (n i : ℕ) (ids : List Identifier) (xs : List Terminal) (h : i < n) where
+  path_now : path_of is_static (n - i) xs ≡ path_turn is_static (n - (i + 1)) xs
+  path_now = let e : n - i ≡ suc (n - (i + 1)) = omega arith in ap (λ k. path_of is_static k xs) e ∙ path_at is_static (n - (i + 1)) xs
+
+  pub path_refused : starts_ident xs ≡ false → path_onto is_static ids (path_of is_static (n - i) xs) ≡ no_path xs
   path_refused none = rw (path_now, no_ident xs none) refl
 
   module _ (j : Identifier) (ys : List Terminal) (is : xs ≡ Ident j ∷ ys) where
     read : ident_of xs ≡ Ok (j, ys)
     read = rw is refl
 
-    pub path_done : starts dot ys ≡ false → path_onto ids (path_of (n - i) xs) ≡ some_path ys false false (ids ++ j ∷ [])
+    pub path_done : starts dot ys ≡ false → path_onto is_static ids (path_of is_static (n - i) xs) ≡ some_path ys false is_static (ids ++ j ∷ [])
     path_done s = rw (path_now, read, s) refl
 
     module _ (ts : List Terminal) (s : starts dot ys ≡ true) (at : ts ≡ rest_of ys) where
-      pub path_all : (zs : List Terminal) → starts star ts ≡ true → zs ≡ rest_of ts → path_onto ids (path_of (n - i) xs) ≡ some_path zs true false (ids ++ j ∷ [])
+      pub path_all : (zs : List Terminal) → starts star ts ≡ true → zs ≡ rest_of ts → path_onto is_static ids (path_of is_static (n - i) xs) ≡ some_path zs true is_static (ids ++ j ∷ [])
       path_all zs a at' = rw (path_now, read, s, ← at, a, ← at') refl
 
-      pub path_next : starts star ts ≡ false → path_onto (ids ++ j ∷ []) (path_of (n - (i + 1)) ts) ≡ path_onto ids (path_of (n - i) xs)
-      path_next a = path_push ids j (path_of (n - (i + 1)) ts) ∙ sym (rw (path_now, read, s, ← at, a) refl)
+      pub path_next : starts star ts ≡ false → path_onto is_static (ids ++ j ∷ []) (path_of is_static (n - (i + 1)) ts) ≡ path_onto is_static ids (path_of is_static (n - i) xs)
+      path_next a = path_push is_static ids j (path_of is_static (n - (i + 1)) ts) ∙ sym (rw (path_now, read, s, ← at, a) refl)

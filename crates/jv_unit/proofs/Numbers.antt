@@ -1,20 +1,24 @@
--- The identifiers of a folder's declarations and members have numbers of names.
-use Rattle.std.proofs.Common.{◌≡◌, ℕ, suc, ◌+◌, ◌<◌, ◌||◌, Bool, true, false, List, [], ◌∷◌, length, length-append, map, get_or, refl, ap, arith}
+-- The identifiers of a folder's declarations, members and static imports have numbers of names.
+use Rattle.std.proofs.Common.{◌≡◌, ℕ, zero, suc, ◌+◌, ◌<◌, ◌||◌, Bool, true, false, List, [], ◌∷◌, length, length-append, map, get_or, refl, sym, ap, subst, arith}
 use Rattle.std.specs.Prelude.{if◌then◌else◌}
 use Rattle.std.specs.List.{All, Contains, flat_map}
 use Rattle.std.proofs.lemmas.List.{length-map}
-use Rattle.std.proofs.lemmas.List.Elements.{All-nil, All-cons, All-head, All-tail, All-append, All-get_or, Contains-get_or}
+use Rattle.std.proofs.lemmas.List.Elements.{All-nil, All-cons, All-head, All-tail, All-append, All-filter, All-get_or, Contains-get_or}
+use Rattle.sg_base.proofs.Finite.{Contains-head, Contains-tail}
 use Rattle.jv_layout.specs.declared.rows.MemberKind.TheVariants.{DefaultCtor}
 use Rattle.jv_layout.specs.declared.rows.MemberRow.{MemberRow}
-use Rattle.jv_layout.specs.Folder.{body_members, decl_count, decl_members, default_ctor as default_members, field_row, file_count, file_members, has_ctor, members_from, modifiers_of, no_modifiers}
+use Rattle.jv_layout.specs.Folder.{LayoutOf, body_members, decl_count, decl_members, default_ctor as default_members, field_row, file_count, file_members, has_ctor, members_from, layout_of, modifiers_of, no_modifiers, statics_in}
+use Rattle.jv_layout.specs.Readers.{statics_of}
 use Rattle.jv_member.specs.Bounds.{IsNumberedOwn}
 use Rattle.jv_member.specs.Own.{own_field, own_method, own_ctor, default_ctor, no_own}
 use Rattle.jv_tree.specs.declared.name.Ident.{Ident}
 use Rattle.jv_tree.specs.declared.names.NameId.{NameId}
 use Rattle.jv_tree.specs.StmtTree.{VarTree}
 use Rattle.jv_tree.specs.TypeTree.{TypeTree}
-use Rattle.jv_tree.specs.DeclTree.{TypeDeclTree, type_decl, nested, field, method, ctor, MemberTrees, no_members, members, UnitTree}
+use Rattle.jv_tree.specs.DeclTree.{ImportTree, TypeDeclTree, type_decl, nested, field, method, ctor, MemberTrees, no_members, members, UnitTree}
 use Rattle.jv_tree.specs.Numbered.{IsNumbered, IsNumberedDecl, IsNumberedIdent, IsNumberedType, IsNumberedVar, AreNumberedMembers, AreNumberedNames, IsNumberedImport}
+use Rattle.jv_names.specs.Bounds.{IsNamedIn}
+use Rattle.jv_unit.specs.Folder.{FolderOf, IsFolderOf}
 use Rattle.jv_unit.specs.Owns.{all_owns, body_owns, decl_owns, default_own, own_at}
 use Rattle.jv_unit.specs.Trees.{decls_in, body_decls, all_decls, decl_at, unit_at, no_unit, no_decl, extends_of, implements_of}
 
@@ -56,6 +60,24 @@ extends_numbered n (type_decl name ms i es is xs) h = h.1
 
 pub implements_numbered : (n : ℕ) (d : TypeDeclTree) → IsNumberedDecl n d → AreNumberedNames n (implements_of d)
 implements_numbered n (type_decl name ms i es is xs) h = h.2
+
+-- ---- static imports
+
+of_files : (n : ℕ) (us : List UnitTree) → ((u : UnitTree) → Contains us u → IsNumbered n u) → (f : ℕ) → All (IsNumberedImport n) (get_or (map statics_in us) f [])
+of_files n [] each f = All-nil (IsNumberedImport n)
+of_files n (u ∷ us) each zero = All-filter (λ (i : ImportTree). i.is_static) (IsNumberedImport n) u.imports (each u (Contains-head u us)).1
+of_files n (u ∷ us) each (suc f) = of_files n us (λ v c. each v (Contains-tail u v us c)) f
+
+-- of each file that is laid out, and where there is none
+pub statics_numbered : (n : ℕ) (names : List (List ℕ)) (us : List UnitTree) → ((u : UnitTree) → Contains us u → IsNumbered n u) → (f : ℕ) → All (IsNumberedImport n) (statics_of (layout_of names us) f)
+statics_numbered n names us each f = of_files n us each f
+
+-- so the layout of a folder names its own rows, and names of the folder alone
+pub named_in : (w : FolderOf) → IsFolderOf w → IsNamedIn w.layout (length w.names)
+named_in w h = record {
+  linked = h.linked;
+  statics = λ f. subst (λ (l : LayoutOf). All (IsNumberedImport (length w.names)) (statics_of l f)) (sym h.layout) (statics_numbered (length w.names) w.names w.files h.numbered f);
+}
 
 -- ---- members
 

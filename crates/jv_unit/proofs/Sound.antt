@@ -10,7 +10,7 @@ use Rattle.sg_base.specs.Graph.{Edge, HasScope}
 use Rattle.sg_base.specs.List.{IsDistinct}
 use Rattle.sg_base.proofs.Finite.{nothing_in, single, Contains-head, Contains-tail, Contains-cons, Contains-filter, Contains-map, map-Contains, Distinct-filter, flat_map-Contains}
 use Rattle.sg_query.specs.declared.query.Query.{Query}
-use Rattle.sg_reading.specs.Reading.{done, AllAsked}
+use Rattle.sg_reading.specs.Reading.{done, AllAsked, and_then}
 use Rattle.sg_reading.proofs.Asking.{AllAsked-more, AllEnds-more, and_then-asked, and_then-asked_where}
 use Rattle.sg_script.specs.Script.{Stage, IsQuery, IsStage, IsSound, AreApart}
 use Rattle.sg_script.proofs.Stages.{data_are_stages, rows_are_stages, edges_are_stages}
@@ -44,7 +44,8 @@ use Rattle.jv_header.specs.Bounds.{AreImportsIn}
 use Rattle.jv_header.specs.Depends.{depends_rule}
 use Rattle.jv_header.specs.Header.{header_rule}
 use Rattle.jv_header.specs.Imports.{ImportsOf, imports_rule, import_edges}
-use Rattle.jv_header.proofs.Bounds.{header_rule_stays, header_row_stays, depends_rule_stays, imports_rule_stays}
+use Rattle.jv_header.specs.StaticImports.{statics_rule}
+use Rattle.jv_header.proofs.Bounds.{header_rule_stays, header_row_stays, depends_rule_stays, imports_rule_stays, statics_rule_stays}
 use Rattle.jv_header.proofs.Programs.{start_is_listed}
 use Rattle.jv_member.specs.declared.signature.Signature.{Signature}
 use Rattle.jv_member.specs.Bounds.{IsNumberedOwn, IsSignatureIn}
@@ -59,7 +60,7 @@ use Rattle.jv_unit.specs.Plans.{all_checks, calling_rule, check_rule, class_of, 
 use Rattle.jv_unit.specs.MemberBodies.{member_body, member_flow, own_body, type_blanks}
 use Rattle.jv_unit.specs.Trees.{decl_at, unit_at, name_of, extends_of, implements_of}
 use Rattle.jv_unit.proofs.CheckPlaces.{IsCheckOf, checks_are}
-use Rattle.jv_unit.proofs.Numbers.{decl_numbered, members_are_owns, owns_numbered, imports_numbered, extends_numbered, implements_numbered}
+use Rattle.jv_unit.proofs.Numbers.{decl_numbered, members_are_owns, named_in, owns_numbered, imports_numbered, extends_numbered, implements_numbered}
 use Rattle.jv_unit.proofs.Trees.{types_of_decls}
 
 -- a predicate for a name of so many is one that a unit may ask
@@ -197,11 +198,21 @@ module _ (w : FolderOf) (h : IsFolderOf w) where
     file_is_stage =
         edges_are_stages (List DiagOf) JavaDatum JavaPred (java_plan w f) (file_rows w.layout f) (file_edges w f) (rows_distinct (file_scope w.layout f)) row_held (asks_in f EdgesIn (file_edges w f) edges_stay) edges_stay.ends
 
+    -- of diagnostics nothing is claimed
+    abbrev AnyDiags : List DiagOf → Type 0
+    AnyDiags ds = Unit {0}
+
+    abbrev statics : Rule (List DiagOf)
+    statics = statics_rule w.layout w.names f (unit_at w.files f).imports
+
+    statics_stay : StaysIn w.layout (length w.names) AnyDiags statics
+    statics_stay = statics_rule_stays w.layout (length w.names) w.names f (named_in w h) (unit_at w.files f).imports (imports_numbered (length w.names) w.files h.numbered f file_within)
+
     pub file_ending_asks : AllAsked (IsQuery (java_plan w f)) (file_ending w f)
     file_ending_asks =
-        asks_in f (λ (ds : List DiagOf). Unit {0}) (file_ending w f)
-        (then_stays w.layout (length w.names) (AreImportsIn w.layout) (λ (ds : List DiagOf). Unit {0}) (imports_rule w.layout w.names f (unit_at w.files f)) (λ i. done i.diags) imports_stay
-        (λ i k. done_stays w.layout (length w.names) (λ (ds : List DiagOf). Unit {0}) i.diags tt))
+        asks_in f AnyDiags (file_ending w f)
+        (then_stays w.layout (length w.names) (AreImportsIn w.layout) AnyDiags (imports_rule w.layout w.names f (unit_at w.files f)) (λ i. and_then statics (λ ds. done (i.diags ++ ds))) imports_stay
+        (λ i k. then_stays w.layout (length w.names) AnyDiags AnyDiags statics (λ ds. done (i.diags ++ ds)) statics_stay (λ ds u. done_stays w.layout (length w.names) AnyDiags (i.diags ++ ds) tt)))
 
   -- ---- types
 
@@ -220,17 +231,17 @@ module _ (w : FolderOf) (h : IsFolderOf w) where
 
     header_stays : StaysIn w.layout (length w.names) (λ (x : Header). AreTypes w.layout x.row) (header_rule w.layout w.names c (extends_of decl) (implements_of decl))
     header_stays =
-        header_rule_stays w.layout (length w.names) w.names c h.linked is_type (extends_of decl) (implements_of decl) (extends_numbered (length w.names) decl numbered) (implements_numbered (length w.names) decl numbered)
+        header_rule_stays w.layout (length w.names) w.names c (named_in w h) is_type (extends_of decl) (implements_of decl) (extends_numbered (length w.names) decl numbered) (implements_numbered (length w.names) decl numbered)
 
     row_stays : StaysIn w.layout (length w.names) (AreTypes w.layout) (type_row w t)
     row_stays =
-        header_row_stays w.layout (length w.names) w.names c h.linked is_type (extends_of decl) (implements_of decl) (extends_numbered (length w.names) decl numbered) (implements_numbered (length w.names) decl numbered)
+        header_row_stays w.layout (length w.names) w.names c (named_in w h) is_type (extends_of decl) (implements_of decl) (extends_numbered (length w.names) decl numbered) (implements_numbered (length w.names) decl numbered)
 
     own_numbered : (m : ℕ) → m < length w.layout.members → IsNumberedOwn (length w.names) (own_at w.files m)
     own_numbered m below = owns_numbered (length w.names) w.files h.numbered m (omega (arith, below, members_are_owns w.files, ap (λ (l : LayoutOf). length l.members) h.layout))
 
     signature_stays : (m : ℕ) → m < length w.layout.members → StaysIn w.layout (length w.names) (λ (s : Signature). IsSignatureIn w.layout s.datum) (member_signature w t m)
-    signature_stays m below = signatures_stay_in w.layout (length w.names) w.names c (class_of w t) (own_at w.files m) h.linked is_type (own_numbered m below)
+    signature_stays m below = signatures_stay_in w.layout (length w.names) w.names c (class_of w t) (own_at w.files m) (named_in w h) is_type (own_numbered m below)
 
     datum_stays : (m : ℕ) → m < length w.layout.members → StaysIn w.layout (length w.names) (λ (d : JavaDatum). Unit {0}) (signature_datum w t m)
     datum_stays m below =
@@ -248,9 +259,9 @@ module _ (w : FolderOf) (h : IsFolderOf w) where
         (subst (λ (ss : List Scope). Contains ss (member_scope w.layout m)) (sym members_are) (map-Contains (member_scope w.layout) (members_of_type w.layout t) m k))
 
     own_asks : (blanks : List Scope) (s : Scope) (o : OwnMember) → IsListed w.layout s → IsNumberedOwn (length w.names) o → AllAsked (IsLayoutQuery w.layout (length w.names)) (own_body w.layout w.names c (extends_of decl) blanks s o)
-    own_asks blanks s (own_field ms x v) k n = (fields_ask_in w.layout (length w.names) w.names c (extends_of decl) s v.init h.linked is_type (extends_numbered (length w.names) decl numbered) k n.1.1).asks
-    own_asks blanks s (own_method m) k n = (methods_ask_in w.layout (length w.names) w.names c (extends_of decl) s m h.linked is_type (extends_numbered (length w.names) decl numbered) k n).asks
-    own_asks blanks s (own_ctor d) k n = (constructors_ask_in w.layout (length w.names) w.names c (extends_of decl) blanks s d h.linked is_type (extends_numbered (length w.names) decl numbered) k n).asks
+    own_asks blanks s (own_field ms x v) k n = (fields_ask_in w.layout (length w.names) w.names c (extends_of decl) s v.init (named_in w h) is_type (extends_numbered (length w.names) decl numbered) k n.1.1).asks
+    own_asks blanks s (own_method m) k n = (methods_ask_in w.layout (length w.names) w.names c (extends_of decl) s m (named_in w h) is_type (extends_numbered (length w.names) decl numbered) k n).asks
+    own_asks blanks s (own_ctor d) k n = (constructors_ask_in w.layout (length w.names) w.names c (extends_of decl) blanks s d (named_in w h) is_type (extends_numbered (length w.names) decl numbered) k n).asks
     own_asks blanks s (default_ctor name) k n = tt
 
     module _ (u : ℕ) (is : u ≡ length w.layout.files + t) where
@@ -266,11 +277,11 @@ module _ (w : FolderOf) (h : IsFolderOf w) where
       check_asks blanks methods k = in_plan (methods_rule w t) (record { start = type_is_listed w.layout c is_type; kind = omega arith; pred = tt }, λ a. tt)
       check_asks blanks (overriding m) k =
           in_plan (overriding_rule w t m)
-          (overrides_ask w.layout (length w.names) w.names c h.linked is_type (name_of decl) (member_scope w.layout m) (own_at w.files m) (member_listed m k) (own_numbered m (member_below w.layout t m k)))
+          (overrides_ask w.layout (length w.names) w.names c (named_in w h) is_type (name_of decl) (member_scope w.layout m) (own_at w.files m) (member_listed m k) (own_numbered m (member_below w.layout t m k)))
       check_asks blanks meeting k = in_plan (meeting_rule w t) (inherited_asks w.layout (length w.names) w.names c (name_of decl) h.linked is_type)
       check_asks blanks (calling m) k =
           in_plan (calling_rule w t m)
-          (ctor_rule_asks w.layout (length w.names) w.names c h.linked is_type (extends_of decl) (extends_numbered (length w.names) decl numbered) (own_at w.files m))
+          (ctor_rule_asks w.layout (length w.names) w.names c (named_in w h) is_type (extends_of decl) (extends_numbered (length w.names) decl numbered) (own_at w.files m))
       check_asks blanks (body m) k =
           and_then-asked (IsQuery (java_plan w u)) (member_body w t blanks m) (λ ds. done (ds ++ member_flow w t m))
           (in_plan (member_body w t blanks m) (own_asks blanks (member_scope w.layout m) (own_at w.files m) (member_listed m k) (own_numbered m (member_below w.layout t m k))))

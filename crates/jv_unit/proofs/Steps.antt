@@ -1,12 +1,12 @@
 -- The steps by which the functions that read what units write and come to prove themselves.
-use Rattle.std.proofs.Common.{◌≡◌, ℕ, List, Option, Result, Ok, Err, MatchResult, sym, subst}
+use Rattle.std.proofs.Common.{◌≡◌, ℕ, List, ◌++◌, Option, Result, Ok, Err, MatchResult, refl, sym, subst}
 use Rattle.std.specs.Result.{IsErrAnd}
 use Rattle.sg_base.specs.declared.scope.Scope.{Scope}
 use Rattle.sg_query.specs.declared.answer.Answer.{Answer}
 use Rattle.sg_query.specs.declared.query.Query.{Query}
 use Rattle.sg_reading.specs.declared.stop.Stop.{Stop}
 use Rattle.sg_reading.specs.declared.stop.Stop.TheVariants.{OutOfMemory}
-use Rattle.sg_reading.specs.Reading.{done, and_then}
+use Rattle.sg_reading.specs.Reading.{done, and_then, each}
 use Rattle.sg_reading.specs.Stop.{Reads}
 use Rattle.sg_reading.proofs.Sequences.{and_then-and_then}
 use Rattle.sg_reading.proofs.Steps.{done_reads, memory_reads, stops, then_ok, then_err}
@@ -18,10 +18,12 @@ use Rattle.jv_instance.specs.declared.pred.JavaPred.{JavaPred}
 use Rattle.jv_instance.specs.declared.labels.TheConstants.{EXT}
 use Rattle.jv_layout.specs.Folder.{LayoutOf}
 use Rattle.jv_layout.specs.Scopes.{type_scope}
+use Rattle.jv_names.specs.declared.reference.Reference.{Reference}
 use Rattle.jv_names.specs.Replies.{Rule}
 use Rattle.jv_header.specs.declared.header.Header.{Header}
 use Rattle.jv_header.specs.Header.{header_rule}
-use Rattle.jv_header.specs.Imports.{ImportsOf, imports_rule, import_edges}
+use Rattle.jv_header.specs.Imports.{ImportsOf, import_edges, import_reference, imports_from, imports_rule, no_imports}
+use Rattle.jv_header.specs.StaticImports.{statics_rule}
 use Rattle.jv_tree.specs.DeclTree.{TypeDeclTree, UnitTree}
 use Rattle.jv_unit.specs.Folder.{FolderOf}
 use Rattle.jv_unit.specs.Plans.{file_rows, file_stage, file_ending, type_header, type_stage}
@@ -49,6 +51,32 @@ module _ {T S U : Type 0} (reply : Replies) (r : Rule T) (f : T → S) (g : S �
 
 -- ---- files
 
+-- what the imports of a file mean, and what is said of the static ones
+module _ (reply : Replies) (w : FolderOf) (f : ℕ) where
+  abbrev meanings : Rule (List Reference)
+  meanings = each (import_reference w.layout f) (unit_at w.files f).imports
+
+  abbrev given_by : List Reference → ImportsOf
+  given_by rs = imports_from w.layout w.names f (unit_at w.files f).types no_imports (unit_at w.files f).imports rs
+
+  abbrev statics : Rule (List DiagOf)
+  statics = statics_rule w.layout w.names f (unit_at w.files f).imports
+
+  -- what follows behind the imports
+  abbrev behind : ImportsOf → Rule (List DiagOf)
+  behind i = and_then statics (λ ds. done (i.diags ++ ds))
+
+  pub meanings_unended : (e : Stop (Query JavaPred)) (x : Result (List DiagOf) (Stop (Query JavaPred))) → IsErrAnd x (λ y. y ≡ e) → Reads {U = List Reference} reply meanings (Err e) → Reads reply (file_ending w f) x
+  meanings_unended e x k h =
+      stops reply (file_ending w f) e x k (then_err reply (imports_rule w.layout w.names f (unit_at w.files f)) behind e (then_err reply meanings (λ rs. done (given_by rs)) e h))
+
+  pub statics_unended : (rs : List Reference) (e : Stop (Query JavaPred)) (x : Result (List DiagOf) (Stop (Query JavaPred))) → IsErrAnd x (λ y. y ≡ e) → Reads reply meanings (Ok rs) → Reads {U = List DiagOf} reply statics (Err e) → Reads reply (file_ending w f) x
+  statics_unended rs e x k h g =
+      stops reply (file_ending w f) e x k
+      (then_ok reply (imports_rule w.layout w.names f (unit_at w.files f)) behind (given_by rs) (Err e) (then_ok reply meanings (λ rs. done (given_by rs)) rs (Ok (given_by rs)) h (done_reads reply (given_by rs) (given_by rs) refl))
+      (then_err reply statics (λ ds. done ((given_by rs).diags ++ ds)) e g))
+
+-- by what the code has of the file
 module _ (reply : Replies) (w : FolderOf) (f : ℕ) (l : LayoutOf) (names : List (List ℕ)) (u : UnitTree) (layout : l ≡ w.layout) (named : names ≡ w.names) (file : u ≡ unit_at w.files f) where
   imports_are : imports_rule l names f u ≡ imports_rule w.layout w.names f (unit_at w.files f)
   imports_are = λ i. imports_rule (layout i) (named i) f (file i)
@@ -67,10 +95,13 @@ module _ (reply : Replies) (w : FolderOf) (f : ℕ) (l : LayoutOf) (names : List
       (subst (λ (m : LayoutOf). MatchResult x (λ ws. ws ≡ edge_writes (file_rows m f) (import_edges m f i)) (λ stop. stop ≡ OutOfMemory)) same k)
 
   pub file_unended : (e : Stop (Query JavaPred)) (x : Result (List DiagOf) (Stop (Query JavaPred))) → IsErrAnd x (λ y. y ≡ e) → Reads {U = ImportsOf} reply (imports_rule l names f u) (Err e) → Reads reply (file_ending w f) x
-  file_unended e x k h = stops reply (file_ending w f) e x k (then_err reply (imports_rule w.layout w.names f (unit_at w.files f)) (λ i. done i.diags) e (imports_read (Err e) h))
+  file_unended e x k h = stops reply (file_ending w f) e x k (then_err reply (imports_rule w.layout w.names f (unit_at w.files f)) (behind reply w f) e (imports_read (Err e) h))
 
-  pub file_ended : (i : ImportsOf) (ds : List DiagOf) → Reads reply (imports_rule l names f u) (Ok i) → ds ≡ i.diags → Reads reply (file_ending w f) (Ok ds)
-  file_ended i ds h e = made reply (imports_rule w.layout w.names f (unit_at w.files f)) (λ i. i.diags) i (Ok ds) (imports_read (Ok i) h) e
+  pub file_ended : (i : ImportsOf) (given ds : List DiagOf) (x : Result (List DiagOf) (Stop (Query JavaPred))) → Reads reply (imports_rule l names f u) (Ok i) → Reads reply (statics reply w f) (Ok ds) → given ≡ i.diags
+      → MatchResult x (λ all. all ≡ given ++ ds) (λ stop. stop ≡ OutOfMemory) → Reads reply (file_ending w f) x
+  file_ended i given ds x h g e m =
+      then_ok reply (imports_rule w.layout w.names f (unit_at w.files f)) (behind reply w f) i x (imports_read (Ok i) h)
+      (made reply (statics reply w f) (λ ds. i.diags ++ ds) ds x g (subst (λ (before : List DiagOf). MatchResult x (λ all. all ≡ before ++ ds) (λ stop. stop ≡ OutOfMemory)) e m))
 
 -- ---- types
 

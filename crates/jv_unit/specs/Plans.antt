@@ -20,6 +20,7 @@ use Rattle.jv_header.specs.Declaration.{declared_diags}
 use Rattle.jv_header.specs.Depends.{depends_rule}
 use Rattle.jv_header.specs.Header.{header_rule, header_row}
 use Rattle.jv_header.specs.Imports.{imports_rule, import_edges}
+use Rattle.jv_header.specs.StaticImports.{statics_rule}
 use Rattle.jv_member.specs.declared.signature.Signature.{Signature}
 use Rattle.jv_member.specs.Constructors.{ctor_rule}
 use Rattle.jv_member.specs.Declaration.{member_diags}
@@ -43,9 +44,11 @@ JavaPlan = Plan (List DiagOf) JavaDatum JavaPred
 abbrev pub file_edges : FolderOf → ℕ → Rule (List Edge)
 file_edges w f = and_then (imports_rule w.layout w.names f (unit_at w.files f)) (λ i. done (import_edges w.layout f i))
 
--- the diagnostics of the imports of a file
+-- the diagnostics of the imports of a file: by what they mean, and, when its rows are closed, by what single static ones bring
 abbrev pub file_ending : FolderOf → ℕ → Rule (List DiagOf)
-file_ending w f = and_then (imports_rule w.layout w.names f (unit_at w.files f)) (λ i. done i.diags)
+file_ending w f =
+    and_then (imports_rule w.layout w.names f (unit_at w.files f))
+    (λ i. and_then (statics_rule w.layout w.names f (unit_at w.files f).imports) (λ ds. done (i.diags ++ ds)))
 
 -- the rows of a file that its unit writes
 abbrev pub file_rows : LayoutOf → ℕ → List (Scope × ℕ)

@@ -9,9 +9,11 @@ use Rattle.jv_diag.specs.Plain.{DiagOf}
 use Rattle.jv_header.specs.declared.header.Header.{Header}
 use Rattle.jv_header.specs.declared.header_progress.HeaderProgress.{HeaderProgress}
 use Rattle.jv_header.specs.declared.imports_progress.ImportsProgress.{ImportsProgress}
+use Rattle.jv_header.specs.declared.statics_progress.StaticsProgress.{StaticsProgress}
 use Rattle.jv_header.specs.ImportsProgress.{AreImportsSoFar}
 use Rattle.jv_header.specs.RowProgress.{IsDependenceSoFar}
 use Rattle.jv_header.specs.Progress.{IsHeaderSoFar}
+use Rattle.jv_header.specs.StaticsProgress.{AreStaticsSoFar}
 use Rattle.jv_expr.specs.declared.body_progress.BodyProgress.{BodyProgress}
 use Rattle.jv_expr.specs.Bodies.{field_rule}
 use Rattle.jv_expr.specs.Progress.{ctor_left, method_left}
@@ -111,3 +113,7 @@ IsReadSoFar reply w t p = IsHeaderSoFar reply w.layout (type_scope w.layout t) (
 -- over these replies some imports of a file were read so far
 abbrev pub AreFileImportsSoFar : Replies → FolderOf → ℕ → ImportsProgress → Type 0
 AreFileImportsSoFar reply w f p = AreImportsSoFar reply w.layout f (unit_at w.files f).imports p
+
+-- over these replies some single static imports of a file were read so far
+abbrev pub AreFileStaticsSoFar : Replies → FolderOf → ℕ → StaticsProgress → Type 0
+AreFileStaticsSoFar reply w f p = AreStaticsSoFar reply w.layout w.names f (unit_at w.files f).imports p

@@ -7,14 +7,19 @@ ghost use Rattle.sg_script.specs.Script.{edge_writes};
 ghost use Rattle.sg_script.specs.declared.write.Write.TheVariants.{AddEdge};
 ghost use Rattle.jv_instance.specs.declared.labels.TheConstants.{SIMP, ODI};
 ghost use Rattle.jv_header.specs.Imports.{import_edges};
+ghost use Rattle.jv_header.specs.ImportsProgress.{ReadsMeanings};
+ghost use Rattle.jv_header.specs.StaticImports.{statics_rule};
 ghost use Rattle.jv_names.specs.Replies.{reply_to};
 ghost use Rattle.jv_unit.specs.Kept.{folder_of, IsWhole};
 ghost use Rattle.jv_unit.specs.Plans.{file_rows, file_stage, file_ending};
-ghost use Rattle.jv_unit.specs.Progress.{AreFileImportsSoFar};
+ghost use Rattle.jv_unit.specs.Progress.{AreFileImportsSoFar, AreFileStaticsSoFar};
+ghost use Rattle.jv_unit.specs.Trees.{unit_at};
 
 use crate::folder::Folder;
 use jv_diag::DiagList;
-use jv_header::{FileImports, ImportsProgress, read_imports};
+use jv_header::{
+    FileImports, ImportsProgress, StaticsProgress, read_imports, read_meanings, read_statics,
+};
 use jv_instance::{JavaDatum, JavaPred, labels};
 use jv_layout::Layout;
 use jv_names::Oracle;
@@ -108,8 +113,64 @@ pub(crate) fn read_file(
     import_writes(alloc, w.layout(), file, &given)
 }
 
-/// The diagnostics of a file as far as the replies tell them, or the first query that has no reply. It goes on with the first import
-/// that was not read so far.
+/// Reads what the imports of a file mean, as far as the replies tell it, or gives the first query that has no reply. It goes on with the
+/// first import that was not read so far; where all were, it takes constant time.
+#[tactic(auto, using(crate::proofs::Folders::folder_facts))]
+fn read_file_meanings(
+    alloc: Global,
+    w: &Folder,
+    o: &Oracle,
+    file: u32,
+    imports: &mut ImportsProgress,
+) -> Result<(), Stop<Query<JavaPred>>>
+    requires whole { IsWhole w.now }
+    requires within { file < length w.now.layout.files }
+    requires so_far { AreFileImportsSoFar (reply_to o.now) (folder_of w.now) file imports.old }
+    ensures reads { ReadsMeanings (reply_to o.now) w.now.layout file (unit_at (folder_of w.now).files file).imports result imports.new }
+    ensures so_far { AreFileImportsSoFar (reply_to o.now) (folder_of w.now) file imports.new }
+{
+    read_meanings(alloc, w.layout(), o, file, w.file(file), imports)
+}
+
+/// What is said of the single static imports of a file by the members that they bring, as far as the replies tell it, or the first query
+/// that has no reply. It goes on with the first import that was not read so far.
+#[tactic(auto, using(crate::proofs::Folders::folder_facts))]
+fn read_file_statics(
+    alloc: Global,
+    w: &Folder,
+    o: &Oracle,
+    file: u32,
+    statics: &mut StaticsProgress,
+) -> Result<DiagList, Stop<Query<JavaPred>>>
+    requires whole { IsWhole w.now }
+    requires within { file < length w.now.layout.files }
+    requires so_far { AreFileStaticsSoFar (reply_to o.now) (folder_of w.now) file statics.old }
+    ensures reads { Reads (reply_to o.now) (statics_rule w.now.layout w.now.names file (unit_at (folder_of w.now).files file).imports) result }
+    ensures so_far { AreFileStaticsSoFar (reply_to o.now) (folder_of w.now) file statics.new }
+{
+    read_statics(
+        alloc,
+        w.layout(),
+        w.names(),
+        o,
+        file,
+        w.imports(file),
+        statics,
+    )
+}
+
+/// The diagnostics of a file by what its imports mean, and behind them those by what its single static imports bring.
+fn with_statics(given: DiagList, checked: DiagList) -> Result<DiagList, Stop<Query<JavaPred>>>
+    ensures { MatchResult result (λ ds. ds ≡ given ++ checked) (λ stop. stop ≡ OutOfMemory) }
+{
+    let mut diags = given;
+    diags.append(checked)?;
+    Ok(diags)
+}
+
+/// The diagnostics of a file as far as the replies tell them, or the first query that has no reply: first what its imports mean, which
+/// was read before its rows were closed, and then what its single static imports bring, for which it may wait. It goes on with the
+/// first import that was not read so far, and makes the diagnostics of what imports mean once all are read.
 #[tactic(auto, using(crate::proofs::Folders::folder_facts))]
 pub(crate) fn finish_file(
     alloc: Global,
@@ -117,13 +178,18 @@ pub(crate) fn finish_file(
     o: &Oracle,
     file: u32,
     imports: &mut ImportsProgress,
+    statics: &mut StaticsProgress,
 ) -> Result<DiagList, Stop<Query<JavaPred>>>
     requires whole { IsWhole w.now }
     requires within { file < length w.now.layout.files }
     requires so_far { AreFileImportsSoFar (reply_to o.now) (folder_of w.now) file imports.old }
+    requires statics { AreFileStaticsSoFar (reply_to o.now) (folder_of w.now) file statics.old }
     ensures reads { Reads (reply_to o.now) (file_ending (folder_of w.now) file) result }
     ensures so_far { AreFileImportsSoFar (reply_to o.now) (folder_of w.now) file imports.new }
+    ensures statics { AreFileStaticsSoFar (reply_to o.now) (folder_of w.now) file statics.new }
 {
+    read_file_meanings(alloc, w, o, file, imports)?;
+    let checked = read_file_statics(alloc, w, o, file, statics)?;
     let given = read_imports(alloc, w.layout(), w.names(), o, file, w.file(file), imports)?;
-    Ok(given.into_diags())
+    with_statics(given.into_diags(), checked)
 }

@@ -3,7 +3,7 @@
 ghost use Rattle.std.specs.Prelude.{◌≡◌, ◌+◌, ◌<◌, ◌^◌, length, map, IfOk};
 ghost use Rattle.jv_layout.specs.Scopes.{type_scope};
 ghost use Rattle.jv_member.specs.MemberDecls.{own_of};
-ghost use Rattle.jv_tree.specs.DeclTree.{tree_of, type_decl_tree};
+ghost use Rattle.jv_tree.specs.DeclTree.{import_tree, tree_of, type_decl_tree};
 ghost use Rattle.jv_unit.specs.Folder.{IsFolderOf};
 ghost use Rattle.jv_unit.specs.Kept.{folder_of, IsWhole};
 ghost use Rattle.jv_unit.specs.Owns.{own_at};
@@ -13,7 +13,7 @@ use crate::decl_paths::DeclPaths;
 use crate::member_places::{MemberPlaces, member_at};
 use jv_layout::{Declarations, Layout};
 use jv_member::MemberDecl;
-use jv_tree::{Names, TypeDecl, Unit};
+use jv_tree::{Import, Names, TypeDecl, Unit};
 use sg_base::Scope;
 use sg_query::KindTable;
 use std::alloc::{AllocError, Global};
@@ -109,6 +109,15 @@ impl Folder {
         ensures { tree_of result.now ≡ unit_at (folder_of self.now).files f }
     {
         &self.files[f as usize]
+    }
+
+    /// The imports of the file with a number, as the text has them.
+    pub(crate) fn imports(&self, f: u32) -> &[Import]
+        requires whole { IsWhole self.now }
+        requires within { f < length self.now.layout.files }
+        ensures { map import_tree result.now ≡ (unit_at (folder_of self.now).files f).imports }
+    {
+        self.file(f).imports.as_slice()
     }
 
     /// The scope of the type with a number.

@@ -2,7 +2,7 @@ use crate::folder::Folder;
 use crate::type_progress::TypeProgress;
 use crate::unit_rules::{finish_unit, read_unit, stage_count};
 use jv_diag::DiagList;
-use jv_header::{HeaderProgress, ImportsProgress};
+use jv_header::{HeaderProgress, ImportsProgress, StaticsProgress};
 use jv_instance::{Java, JavaDatum, JavaPred};
 use jv_names::Oracle;
 use sg_query::{Answer, Query, copy_query};
@@ -19,7 +19,8 @@ const HEADER_STAGES: usize = 1;
 /// What the unit with a number does, over the folder that all units share, and the replies that have come to it. Units come in
 /// the order of files, and behind them in the order of types. Contracts see these (`ScriptOf`), and not how far the imports of a file
 /// or the header and the checks of a type came: where a reply is missing, it goes on with the import or the reference that asked for
-/// it, with the check of the member that did, and in a body with the statement at its top.
+/// it, with the check of the member that did, and in a body with the statement at its top. That goes for what imports mean, and again
+/// for what single static ones bring.
 #[derive(Drop)]
 pub struct JavaScript {
     alloc: Global,
@@ -29,6 +30,7 @@ pub struct JavaScript {
     header: HeaderProgress,
     progress: TypeProgress,
     imports: ImportsProgress,
+    statics: StaticsProgress,
 }
 
 impl Model for JavaScript {
@@ -38,7 +40,7 @@ impl Model for JavaScript {
     ghost use Rattle.jv_names.specs.Replies.{reply_to};
     ghost use Rattle.jv_unit.specs.contracts.folder.Folder.{the_row};
     ghost use Rattle.jv_unit.specs.Kept.{folder_of};
-    ghost use Rattle.jv_unit.specs.Progress.{AreFileImportsSoFar, IsReadSoFar, IsSoFar};
+    ghost use Rattle.jv_unit.specs.Progress.{AreFileImportsSoFar, AreFileStaticsSoFar, IsReadSoFar, IsSoFar};
     ghost use Rattle.jv_unit.specs.Script.{ScriptOf};
 
     ghost Value = { ScriptOf };
@@ -49,7 +51,8 @@ impl Model for JavaScript {
 
     ghost invariant = { λ s. IsReadSoFar (reply_to s.replies) (folder_of (arc_value s.folder)) (s.unit - length (arc_value s.folder).layout.files) s.header
         × IsSoFar (reply_to s.replies) (folder_of (arc_value s.folder)) (s.unit - length (arc_value s.folder).layout.files) s.progress.begun
-        × AreFileImportsSoFar (reply_to s.replies) (folder_of (arc_value s.folder)) s.unit s.imports };
+        × AreFileImportsSoFar (reply_to s.replies) (folder_of (arc_value s.folder)) s.unit s.imports
+        × AreFileStaticsSoFar (reply_to s.replies) (folder_of (arc_value s.folder)) s.unit s.statics };
 }
 
 impl JavaScript {
@@ -67,6 +70,7 @@ impl JavaScript {
             header: HeaderProgress::new(alloc),
             progress: TypeProgress::new(),
             imports: ImportsProgress::new(alloc),
+            statics: StaticsProgress::new(alloc),
         }
     }
 }
@@ -117,6 +121,7 @@ impl Script for JavaScript {
         self.header = HeaderProgress::new(self.alloc);
         self.progress = TypeProgress::new();
         self.imports = ImportsProgress::new(self.alloc);
+        self.statics = StaticsProgress::new(self.alloc);
         let _last = self.replies.take_back();
     }
 
@@ -144,6 +149,7 @@ impl Script for JavaScript {
             &mut self.header,
             &mut self.progress,
             &mut self.imports,
+            &mut self.statics,
         ))
     }
 }

@@ -1,7 +1,8 @@
 //! The checkers of files and of types: units that follow rules.
 //!
 //! What each does is a plan (`specs/Plans.antt`), a list of stages that are rules over replies: the unit of a file reads its
-//! imports, writes the edges that they give, and comes to their diagnostics; the unit of a type reads its header, writes its
+//! imports, writes the edges that they give, and comes to their diagnostics, and to those of what its single static imports bring,
+//! which it looks up once its rows are closed; the unit of a type reads its header, writes its
 //! supertypes and then the signature of each member, and comes to the diagnostics of its header, its declaration, its members and
 //! their bodies. What is checked behind the header is a list (`specs/Checks.antt`), done one check after another: a missing reply
 //! repeats at most the check that asks for it. All units of a folder share its layout, names and trees (`Folder`). `java_units`

@@ -6,7 +6,7 @@ ghost use Rattle.sg_reading.specs.Stop.{Reads};
 ghost use Rattle.jv_names.specs.Replies.{reply_to};
 ghost use Rattle.jv_unit.specs.Kept.{folder_of, IsWhole};
 ghost use Rattle.jv_unit.specs.Plans.{own_file_ending, own_type_ending, type_stages, unit_ending, unit_stages};
-ghost use Rattle.jv_unit.specs.Progress.{AreFileImportsSoFar, IsReadSoFar, IsSoFar};
+ghost use Rattle.jv_unit.specs.Progress.{AreFileImportsSoFar, AreFileStaticsSoFar, IsReadSoFar, IsSoFar};
 ghost use Rattle.jv_unit.specs.Scripts.{ReadsStageOf};
 
 use crate::check_rules::finish_whole;
@@ -16,7 +16,7 @@ use crate::member_rules::{member_count, read_datum};
 use crate::type_progress::TypeProgress;
 use crate::type_rules::read_type;
 use jv_diag::DiagList;
-use jv_header::{HeaderProgress, ImportsProgress};
+use jv_header::{HeaderProgress, ImportsProgress, StaticsProgress};
 use jv_instance::{JavaDatum, JavaPred};
 use jv_names::Oracle;
 use sg_query::Query;
@@ -97,17 +97,20 @@ fn finish_own_file(
     o: &Oracle,
     file: u32,
     imports: &mut ImportsProgress,
+    statics: &mut StaticsProgress,
 ) -> Result<DiagList, Stop<Query<JavaPred>>>
     requires whole { IsWhole w.now }
     requires within { file < length w.now.layout.files }
     requires so_far { AreFileImportsSoFar (reply_to o.now) (folder_of w.now) file imports.old }
+    requires statics { AreFileStaticsSoFar (reply_to o.now) (folder_of w.now) file statics.old }
     ensures reads { Reads (reply_to o.now) (own_file_ending (folder_of w.now) file) result }
     ensures so_far { AreFileImportsSoFar (reply_to o.now) (folder_of w.now) file imports.new }
+    ensures statics { AreFileStaticsSoFar (reply_to o.now) (folder_of w.now) file statics.new }
 {
     if file < 2 {
         return Ok(DiagList::empty(alloc));
     }
-    finish_file(alloc, w, o, file, imports)
+    finish_file(alloc, w, o, file, imports, statics)
 }
 
 /// The diagnostics of a type, unless it stands in a file of the prelude.
@@ -135,7 +138,8 @@ fn finish_own_type(
 }
 
 /// The diagnostics of a unit as far as the replies tell them, or the first query that has no reply. That of a file goes on with the
-/// first import that was not read so far, and that of a type from where the progress says that it came to.
+/// first import that was not read so far, and behind all of them with the first static one, and that of a type from where the progress
+/// says that it came to.
 pub(crate) fn finish_unit(
     alloc: Global,
     w: &Folder,
@@ -144,20 +148,23 @@ pub(crate) fn finish_unit(
     header: &mut HeaderProgress,
     progress: &mut TypeProgress,
     imports: &mut ImportsProgress,
+    statics: &mut StaticsProgress,
 ) -> Result<DiagList, Stop<Query<JavaPred>>>
     requires whole { IsWhole w.now }
     requires within { unit < length w.now.layout.files + length w.now.layout.types }
     requires read { IsReadSoFar (reply_to o.now) (folder_of w.now) (unit - length w.now.layout.files) header.old }
     requires so_far { IsSoFar (reply_to o.now) (folder_of w.now) (unit - length w.now.layout.files) progress.old.begun }
     requires imports { AreFileImportsSoFar (reply_to o.now) (folder_of w.now) unit imports.old }
+    requires statics { AreFileStaticsSoFar (reply_to o.now) (folder_of w.now) unit statics.old }
     ensures reads { Reads (reply_to o.now) (unit_ending (folder_of w.now) unit) result }
     ensures read { IsReadSoFar (reply_to o.now) (folder_of w.now) (unit - length w.now.layout.files) header.new }
     ensures so_far { IsSoFar (reply_to o.now) (folder_of w.now) (unit - length w.now.layout.files) progress.new.begun }
     ensures imports { AreFileImportsSoFar (reply_to o.now) (folder_of w.now) unit imports.new }
+    ensures statics { AreFileStaticsSoFar (reply_to o.now) (folder_of w.now) unit statics.new }
 {
     let files = w.file_count();
     if unit < files {
-        finish_own_file(alloc, w, o, unit, imports)
+        finish_own_file(alloc, w, o, unit, imports, statics)
     } else {
         finish_own_type(alloc, w, o, unit - files, header, progress)
     }

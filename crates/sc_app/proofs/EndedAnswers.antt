@@ -1,5 +1,5 @@
--- In a run that has ended each unit was told the answers in the graph at its end, to queries that it may ask there, and to all those of its imports or its
--- header.
+-- In a run that has ended each unit was told the answers in the graph at its end, to queries that it may ask there, and to all those of its imports, static
+-- ones too, or its header.
 use Rattle.std.proofs.Common.{◌≡◌, ℕ, ◌+◌, ◌-◌, ◌<◌, ◌==◌, ◌⊎◌, IsTrue, List, [], ◌∷◌, ◌++◌, codes, length, map, Option, None, Some, inl, inr, refl, sym, ap, ◌∙◌, subst, arith}
 use Rattle.std.specs.List.{Contains}
 use Rattle.std.proofs.lemmas.List.Elements.{Contains-append_cases}
@@ -53,7 +53,7 @@ use Rattle.jv_names.specs.Kinds.{AreKinds, asked_by as java_asked, kinds}
 use Rattle.jv_names.specs.Law.{InGraph}
 use Rattle.jv_names.specs.Replies.{Rule}
 use Rattle.jv_unit.specs.Folder.{FolderOf, IsFolderOf}
-use Rattle.jv_unit.specs.Plans.{file_edges, file_rows, file_stage, file_stages, java_plan, signature_stage, type_row, type_stage, type_stages, unit_ending, unit_stages}
+use Rattle.jv_unit.specs.Plans.{file_edges, file_rows, file_stage, file_stages, java_plan, own_file_ending, own_type_ending, signature_stage, type_row, type_stage, type_stages, unit_ending, unit_stages}
 use Rattle.jv_unit.specs.Trees.{decl_at, extends_of, implements_of, unit_at}
 use Rattle.jv_unit.proofs.UnitRules.{cond_below, type_stages_are}
 use Rattle.sc_listing.specs.Answers.{AreAnswerLines, AreUnitTexts, IsAnswersText, unit_of, unit_text}
@@ -200,6 +200,15 @@ module _ (w : FolderOf) (c : JavaCore) (folder : IsFolderOf w) (ran : IsFolderRu
             let same : was.0 ≡ a = answered_once q was.0 a (stands q was.0 kind was.1) answer in
             kept q a (subst (λ (b : Answer JavaDatum). WasTold before q b) same was.1)
 
+        -- so did what it comes to
+        ending_told : (q : Query JavaPred) (a : Answer JavaDatum) → Asks (InGraph g) (unit_ending w u) q → InGraph g q a → WasTold heard q a
+        ending_told q a asks answer =
+            let stands : (p : Query JavaPred) (b : Answer JavaDatum) → IsOfKind p → WasTold before p b → InGraph g p b = λ p b i t. in_graph p b i (kept p b t) in
+            let was = asked_is_answered IsOfKind (WasTold before) (InGraph g) answered_once stands (unit_ending w u) x over.1.0 q ending_asks over.1.1 asks in
+            let kind : IsOfKind q = Asks-kind IsOfKind (InGraph g) (unit_ending w u) q ending_asks asks in
+            let same : was.0 ≡ a = answered_once q was.0 a (stands q was.0 kind was.1) answer in
+            kept q a (subst (λ (b : Answer JavaDatum). WasTold before q b) same was.1)
+
   -- ---- a run that has ended
 
   module _ (ended : IsPhase (run is_wanted same_datum c) Ended) where
@@ -218,6 +227,14 @@ module _ (w : FolderOf) (c : JavaCore) (folder : IsFolderOf w) (ran : IsFolderRu
         let rule : Rule ImportsOf = imports_rule w.layout w.names u (unit_at w.files u) in
         first_told u within e.0 e.1 (file_stage w u) listed rule (λ i. and_then (edges i) writes) (and_then-and_then rule edges writes) q a asks answer
 
+    -- and what single static imports bring
+    brought_told : (u : ℕ) → u < length w.layout.files → (q : Query JavaPred) (a : Answer JavaDatum) → Asks (InGraph g) (own_file_ending (ruled w) u) q → InGraph g q a → WasTold (heard u) q a
+    brought_told u file q a asks answer =
+        let within : u < length w.layout.files + length w.layout.types = omega (arith, file) in
+        let e = the_end u within in
+        let of_file : unit_ending (ruled w) u ≡ own_file_ending (ruled w) u = cond_below u (length w.layout.files) (own_file_ending (ruled w) u) (own_type_ending (ruled w) (u - length w.layout.files)) file in
+        ending_told u within e.0 e.1 q a (subst (λ (r : Rule (List DiagOf)). Asks (InGraph g) r q) (sym of_file ∙ sym (unit_ending_same w u)) asks) answer
+
     -- the header of a type
     header_told : (u t : ℕ) → u ≡ length w.layout.files + t → t < length w.layout.types → (q : Query JavaPred) (a : Answer JavaDatum)
         → Asks (InGraph g) (header_rule w.layout w.names (type_scope w.layout t) (extends_of (decl_at w.files t)) (implements_of (decl_at w.files t))) q → InGraph g q a → WasTold (heard u) q a
@@ -233,7 +250,8 @@ module _ (w : FolderOf) (c : JavaCore) (folder : IsFolderOf w) (ran : IsFolderRu
         first_told u within e.0 e.1 (type_stage w t) listed rule (λ h. and_then (row h) writes) (and_then-and_then rule row writes) q a asks answer
 
     first_asked : (u : ℕ) (q : Query JavaPred) (a : Answer JavaDatum) → AsksFirst (ruled w) g u q → InGraph g q a → WasTold (heard u) q a
-    first_asked u q a (inl (file, asks)) answer = imports_told u file q a asks answer
+    first_asked u q a (inl (file, inl asks)) answer = imports_told u file q a asks answer
+    first_asked u q a (inl (file, inr asks)) answer = brought_told u file q a asks answer
     first_asked u q a (inr (t, at, type, asks)) answer = header_told u t at type q a asks answer
 
     -- ---- the listing

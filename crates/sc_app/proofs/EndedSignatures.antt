@@ -47,7 +47,7 @@ use Rattle.jv_member.proofs.Bounds.{signatures_stay_in}
 use Rattle.jv_unit.specs.Folder.{FolderOf, IsFolderOf}
 use Rattle.jv_unit.specs.Owns.{own_at}
 use Rattle.jv_unit.specs.Plans.{class_of, java_plan, member_signature, signature_datum, signature_stage, type_stage, unit_ending, unit_stages}
-use Rattle.jv_unit.proofs.Numbers.{members_are_owns, owns_numbered}
+use Rattle.jv_unit.proofs.Numbers.{members_are_owns, named_in, owns_numbered}
 use Rattle.jv_unit.proofs.UnitRules.{type_stages_are}
 use Rattle.sc_app.specs.FolderGraph.{GivesSignature}
 use Rattle.sc_app.specs.FolderRun.{JavaCore, IsFolderRun, ruled, same_datum}
@@ -134,7 +134,7 @@ module _ (w : FolderOf) (c : JavaCore) (folder : IsFolderOf w) (ran : IsFolderRu
     asks_names : AllAsked (IsNameQuery w.layout (length w.names)) (signature_datum w t m)
     asks_names =
         and_then-asked (IsNameQuery w.layout (length w.names)) (member_signature w t m) (λ (s : Signature). done s.datum)
-        (signatures_stay_in w.layout (length w.names) w.names (type_scope w.layout t) (class_of w t) (own_at w.files m) folder.linked (row_is_type w.layout t owner_within)
+        (signatures_stay_in w.layout (length w.names) w.names (type_scope w.layout t) (class_of w t) (own_at w.files m) (named_in w folder) (row_is_type w.layout t owner_within)
         (owns_numbered (length w.names) w.files folder.numbered m (omega (arith, within, members_are_owns w.files, ap (λ (l : LayoutOf). length l.members) folder.layout)))).asks
         (λ s. tt)
 

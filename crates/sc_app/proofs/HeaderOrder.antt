@@ -62,7 +62,7 @@ use Rattle.jv_unit.specs.Folder.{FolderOf, IsFolderOf}
 use Rattle.jv_unit.specs.Owns.{own_at}
 use Rattle.jv_unit.specs.Plans.{class_of, file_edges, file_rows, file_stage, file_stages, java_plan, member_signature, signature_datum, signature_stage, type_row, type_stage, type_stages, unit_stages}
 use Rattle.jv_unit.specs.Trees.{decl_at, extends_of, implements_of}
-use Rattle.jv_unit.proofs.Numbers.{decl_numbered, extends_numbered, implements_numbered, members_are_owns, owns_numbered}
+use Rattle.jv_unit.proofs.Numbers.{decl_numbered, extends_numbered, implements_numbered, members_are_owns, named_in, owns_numbered}
 use Rattle.jv_unit.proofs.Trees.{types_of_decls}
 use Rattle.sc_app.specs.FolderGraph.{GivesImport, IsSkeleton, headers_of}
 use Rattle.sc_app.specs.FolderLaw.{MayAskForOwn, roles_of}
@@ -171,7 +171,7 @@ module _ (w : FolderOf) (h : IsFolderOf w) where
 
       row_stays : StaysIn w.layout (length w.names) (AreTypes w.layout) (type_row w t)
       row_stays =
-          header_row_stays w.layout (length w.names) w.names (type_scope w.layout t) h.linked (row_is_type w.layout t within) (extends_of (decl_at w.files t)) (implements_of (decl_at w.files t))
+          header_row_stays w.layout (length w.names) w.names (type_scope w.layout t) (named_in w h) (row_is_type w.layout t within) (extends_of (decl_at w.files t)) (implements_of (decl_at w.files t))
           (extends_numbered (length w.names) (decl_at w.files t) numbered) (implements_numbered (length w.names) (decl_at w.files t) numbered)
 
       row_asks_none : AllAsked AsksNone (type_stage w t).rule
@@ -180,7 +180,7 @@ module _ (w : FolderOf) (h : IsFolderOf w) where
 
       signature_stays : (m : ℕ) → m < length w.layout.members → StaysIn w.layout (length w.names) (λ (s : Signature). IsSignatureIn w.layout s.datum) (member_signature w t m)
       signature_stays m below =
-          signatures_stay_in w.layout (length w.names) w.names (type_scope w.layout t) (class_of w t) (own_at w.files m) h.linked (row_is_type w.layout t within)
+          signatures_stay_in w.layout (length w.names) w.names (type_scope w.layout t) (class_of w t) (own_at w.files m) (named_in w h) (row_is_type w.layout t within)
           (owns_numbered (length w.names) w.files h.numbered m (omega (arith, below, members_are_owns w.files, ap (λ l. length l.members) h.layout)))
 
       signature_asks_none : (m : ℕ) → m < length w.layout.members → AllAsked AsksNone (signature_stage w t m).rule

@@ -14,6 +14,7 @@ use Rattle.jv_unit.specs.contracts.decl_paths.DeclPaths as paths
 use Rattle.jv_unit.specs.contracts.member_places.MemberPlaces as places
 use Rattle.jv_header.specs.contracts.header_progress.HeaderProgress as header
 use Rattle.jv_header.specs.contracts.imports_progress.ImportsProgress as imports
+use Rattle.jv_header.specs.contracts.statics_progress.StaticsProgress as statics
 use Rattle.jv_header.specs.contracts.header.Header as whole_header
 use Rattle.jv_header.specs.contracts.dependence.Dependence as found
 use Rattle.jv_header.specs.contracts.begun_dependence.BegunDependence as row
@@ -68,6 +69,9 @@ header_send = search (sendable, heap.crosses) depth 40
 imports_send : IsSend imports.the_row
 imports_send = search (sendable, heap.crosses) depth 40
 
+statics_send : IsSend statics.the_row
+statics_send = search (sendable, heap.crosses) depth 40
+
 whole_header_send : IsSend whole_header.the_row
 whole_header_send = search (sendable, heap.crosses, maps.crosses, sets.crosses) depth 60 fits 1000000
 
@@ -108,4 +112,4 @@ java_answer_send : IsSend (answer.the_row datum.the_row)
 java_answer_send = answer_send datum.the_row datum_send datum_sync
 
 pub script_send : IsSend script.the_row
-script_send = search (java_answer_send, pred_send, folder_send, folder_sync, header_send, imports_send, begun_send, sendable, heap.crosses, maps.crosses, sets.crosses) depth 60 fits 1000000
+script_send = search (java_answer_send, pred_send, folder_send, folder_sync, header_send, imports_send, statics_send, begun_send, sendable, heap.crosses, maps.crosses, sets.crosses) depth 60 fits 1000000

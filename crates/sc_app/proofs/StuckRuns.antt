@@ -85,7 +85,7 @@ use Rattle.jv_tree.specs.Numbered.{AreNumberedNames, IsNumberedDecl, IsNumberedN
 use Rattle.jv_unit.specs.Folder.{FolderOf, IsFolderOf}
 use Rattle.jv_unit.specs.Plans.{java_plan, signature_stage, type_row}
 use Rattle.jv_unit.specs.Trees.{decl_at, extends_of, implements_of, unit_at}
-use Rattle.jv_unit.proofs.Numbers.{decl_numbered, extends_numbered, implements_numbered, imports_numbered}
+use Rattle.jv_unit.proofs.Numbers.{decl_numbered, extends_numbered, implements_numbered, imports_numbered, named_in}
 use Rattle.jv_unit.proofs.Trees.{types_of_decls}
 use Rattle.jv_unit.proofs.UnitRules.{type_stages_are}
 use Rattle.sc_app.specs.FolderGraph.{IsSkeleton, decl_of, headers_of, opened_graph}
@@ -331,7 +331,7 @@ module _ (w : FolderOf) (c : JavaCore) (ok : IsFolderOf w) (ran : IsFolderRun w 
         All-append (IsNumberedName (length w.names)) es is (extends_numbered (length w.names) (decl_at w.files t) numbered_decl) (implements_numbered (length w.names) (decl_at w.files t) numbered_decl)
 
     reference_asks : (ids : List Ident) → IsNumberedName (length w.names) ids → AllAsked (IsNameQuery w.layout (length w.names)) (header_reference w.layout here ids)
-    reference_asks ids k = (header_reference_stays w.layout (length w.names) w.names here ok.linked is_type ids k).asks
+    reference_asks ids k = (header_reference_stays w.layout (length w.names) w.names here (named_in w ok) is_type ids k).asks
 
     references_ask : (ns : List (List Ident)) → AreNumberedNames (length w.names) ns → AllAsked (IsNameQuery w.layout (length w.names)) (each (header_reference w.layout here) ns)
     references_ask ns k =

@@ -20,7 +20,7 @@ use Rattle.jv_layout.specs.Sizes.{most_types}
 use Rattle.jv_names.specs.Law.{InGraph}
 use Rattle.jv_tree.specs.DeclTree.{UnitTree}
 use Rattle.jv_unit.specs.Folder.{FolderOf}
-use Rattle.jv_unit.specs.Plans.{unit_ending, unit_stages}
+use Rattle.jv_unit.specs.Plans.{own_file_ending, unit_ending, unit_stages}
 use Rattle.jv_unit.specs.Trees.{decl_at, extends_of, implements_of, unit_at}
 use Rattle.sc_io.specs.SourceTree.{FileOf}
 use Rattle.sc_listing.specs.Answers.{unit_of, unit_text}
@@ -50,10 +50,10 @@ listed_in ss names us = record { layout = layout_of names us; names = names; fil
 abbrev pub MayAsk : FolderOf → GraphOf JavaDatum → ℕ → Query JavaPred → Type 0
 MayAsk w g u q = ((s : Stage JavaDatum JavaPred) × Contains (unit_stages w u) s × Asks (InGraph g) s.rule q) ⊎ Asks (InGraph g) (unit_ending w u) q
 
--- its imports, or its header, ask a query in a graph
+-- its imports, by what they mean or by what single static ones bring, or its header ask a query in a graph
 abbrev pub AsksFirst : FolderOf → GraphOf JavaDatum → ℕ → Query JavaPred → Type 0
 AsksFirst w g u q =
-    ((u < length w.layout.files) × Asks (InGraph g) (imports_rule w.layout w.names u (unit_at w.files u)) q)
+    ((u < length w.layout.files) × (Asks (InGraph g) (imports_rule w.layout w.names u (unit_at w.files u)) q ⊎ Asks (InGraph g) (own_file_ending w u) q))
     ⊎ ((t : ℕ) × (u ≡ length w.layout.files + t) × (t < length w.layout.types) × Asks (InGraph g) (header_rule w.layout w.names (type_scope w.layout t) (extends_of (decl_at w.files t)) (implements_of (decl_at w.files t))) q)
 
 -- lines of a unit, in the order of their bytes, each once: each is that of a query which the unit may ask, with its answer in the graph, and all queries of

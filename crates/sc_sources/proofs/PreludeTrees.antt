@@ -12,7 +12,7 @@ use Rattle.jv_grammar.specs.Load.{loads_of}
 use Rattle.jv_grammar.specs.TypeReader.{name_of, base_of, pairs_of, ty_of, declares}
 use Rattle.jv_grammar.specs.ExprReader.{run_of, exprs_of, args_of, head_of, suffixes_of, primary_of, steps_of, post_of, unary_of, links_of, bin_of, cond_of, expr_of, init_of, below}
 use Rattle.jv_grammar.specs.StmtReader.{var_by, vars_up_to, vars_by, effect_by, block_by, effect_stmt_by, word_by, stmt_by, bstmt_by, bstmts_up_to, bstmts_by, below_stmt, return_by, optional_by}
-use Rattle.jv_grammar.specs.DeclReader.{mods_of, names_of, parent_of, headed_of, param_of, some_params_of, params_of, constants_of, field_of, method_of, typed_of, plain_of, call_of, inner_of, ctor_of, behind_mods, member_of, members_of, braced_of, class_of, interface_of, decl_of, below_type, type_of, types_of, package_of, path_of, import_of, imports_of, file_of}
+use Rattle.jv_grammar.specs.DeclReader.{mods_of, names_of, parent_of, headed_of, param_of, some_params_of, params_of, constants_of, field_of, method_of, typed_of, plain_of, call_of, inner_of, ctor_of, behind_mods, member_of, members_of, braced_of, class_of, interface_of, decl_of, below_type, type_of, types_of, package_of, path_of, listed_of, import_of, imports_of, file_of}
 use Rattle.jv_grammar.proofs.Deep.{find_deep, is_shallow}
 use Rattle.jv_grammar.proofs.WholeFiles.{found_file, one_shallow}
 use Rattle.jv_parse.specs.Naming.{names_with}
@@ -49,7 +49,7 @@ module _ (bytes : List ℕ) (old : List (List ℕ)) (ts : List Token) (u : UnitT
 
 -- all readers
 readers : Unit {0}
-unfolding name_of base_of pairs_of ty_of declares run_of exprs_of args_of head_of suffixes_of primary_of steps_of post_of unary_of links_of bin_of cond_of expr_of init_of below var_by vars_up_to vars_by effect_by block_by effect_stmt_by word_by stmt_by bstmt_by bstmts_up_to bstmts_by below_stmt return_by optional_by mods_of names_of parent_of headed_of param_of some_params_of params_of constants_of field_of method_of typed_of plain_of call_of inner_of ctor_of behind_mods member_of members_of braced_of class_of interface_of decl_of below_type type_of types_of package_of path_of import_of imports_of file_of
+unfolding name_of base_of pairs_of ty_of declares run_of exprs_of args_of head_of suffixes_of primary_of steps_of post_of unary_of links_of bin_of cond_of expr_of init_of below var_by vars_up_to vars_by effect_by block_by effect_stmt_by word_by stmt_by bstmt_by bstmts_up_to bstmts_by below_stmt return_by optional_by mods_of names_of parent_of headed_of param_of some_params_of params_of constants_of field_of method_of typed_of plain_of call_of inner_of ctor_of behind_mods member_of members_of braced_of class_of interface_of decl_of below_type type_of types_of package_of path_of listed_of import_of imports_of file_of
 readers = tt
 
 -- ---- the source of Object

@@ -4,12 +4,12 @@ ghost use Rattle.std.specs.Prelude.{◌≡◌, Ok, Err, length, map};
 ghost use Rattle.std.specs.Option.{option_map};
 ghost use Rattle.jv_tree.specs.TypeTree.{ids_of};
 ghost use Rattle.jv_tree.specs.DeclTree.{import_tree};
-ghost use Rattle.jv_grammar.specs.DeclReader.{package_of, path_of, import_of, imports_of};
+ghost use Rattle.jv_grammar.specs.DeclReader.{package_of, path_of, stands_alone, listed_of, import_of, imports_of};
 ghost use Rattle.jv_parse_expr.specs.View.{Gives};
 
 use jv_grammar::Terminal;
 use jv_parse_expr::fault::{Fault, refused};
-use jv_parse_expr::marks::{DOT, SEMICOLON, STAR, WORD_IMPORT, WORD_PACKAGE};
+use jv_parse_expr::marks::{DOT, SEMICOLON, STAR, WORD_IMPORT, WORD_PACKAGE, WORD_STATIC};
 use jv_parse_expr::names::name;
 use jv_parse_expr::terminals::{behind, behind_word, identifier};
 use jv_tree::{Import, Name, nodes};
@@ -33,14 +33,16 @@ pub(crate) fn package<'a>(
     Ok((Some(name), after))
 }
 
-/// The name of an import, and whether `.*` stands behind it; at most as many identifiers as `count`.
+/// The name of an import, and whether `.*` stands behind it; at most as many identifiers as `count`. The import is static where
+/// `is_static` says so.
 #[tactic(auto, using(jv_parse_expr::proofs::Faults::fails_bind))]
 fn path<'a>(
     alloc: Global,
+    is_static: bool,
     count: usize,
     terminals: &'a [Terminal],
 ) -> Result<(Import, &'a [Terminal]), Fault>
-    ensures { Gives (λ r. (import_tree r.0, r.1.now)) result (path_of count terminals.now) }
+    ensures { Gives (λ r. (import_tree r.0, r.1.now)) result (path_of is_static count terminals.now) }
 {
     let mut ids = Vec::new(alloc);
     let mut rest = terminals;
@@ -50,26 +52,52 @@ fn path<'a>(
         };
         ids.push(next)?;
         let Some(dotted) = behind(DOT, after) else {
-            return Ok((nodes::import(Name { ids }, false, false), after));
+            return Ok((nodes::import(Name { ids }, false, is_static), after));
         };
         if let Some(end) = behind(STAR, dotted) {
-            return Ok((nodes::import(Name { ids }, true, false), end));
+            return Ok((nodes::import(Name { ids }, true, is_static), end));
         }
         rest = dotted;
     }
     Err(refused(rest))
 }
 
-/// An import behind its keyword.
-#[tactic(auto, using(jv_parse_expr::proofs::Faults::fails_bind), unfolding(jv_grammar::specs::DeclReader::import_of))]
-fn import<'a>(alloc: Global, terminals: &'a [Terminal]) -> Result<(Import, &'a [Terminal]), Fault>
-    ensures { Gives (λ r. (import_tree r.0, r.1.now)) result (import_of terminals.now) }
+/// Whether this is a single static import of one identifier, which names no type.
+fn stands_alone(import: &Import) -> bool
+    ensures { result ≡ stands_alone (import_tree import.now) }
 {
-    let (item, end) = path(alloc, terminals.len(), terminals)?;
+    import.is_static && (!import.all && import.name.ids.len() < 2)
+}
+
+/// An import behind its words.
+#[tactic(auto, using(jv_parse_expr::proofs::Faults::fails_bind), unfolding(jv_grammar::specs::DeclReader::listed_of))]
+fn listed<'a>(
+    alloc: Global,
+    is_static: bool,
+    terminals: &'a [Terminal],
+) -> Result<(Import, &'a [Terminal]), Fault>
+    ensures { Gives (λ r. (import_tree r.0, r.1.now)) result (listed_of is_static terminals.now) }
+{
+    let (item, end) = path(alloc, is_static, terminals.len(), terminals)?;
+    if stands_alone(&item) {
+        let alone = end;
+        return Err(refused(alone));
+    }
     let Some(after) = behind(SEMICOLON, end) else {
         return Err(refused(end));
     };
     Ok((item, after))
+}
+
+/// An import behind its keyword (JLS 7.5).
+#[tactic(auto, using(jv_parse_expr::proofs::Faults::fails_bind), unfolding(jv_grammar::specs::DeclReader::import_of))]
+fn import<'a>(alloc: Global, terminals: &'a [Terminal]) -> Result<(Import, &'a [Terminal]), Fault>
+    ensures { Gives (λ r. (import_tree r.0, r.1.now)) result (import_of terminals.now) }
+{
+    match behind_word(WORD_STATIC, terminals) {
+        Some(after) => listed(alloc, true, after),
+        None => listed(alloc, false, terminals),
+    }
 }
 
 /// Imports, fewer than `count`.

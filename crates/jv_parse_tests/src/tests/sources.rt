@@ -1,4 +1,4 @@
-//! The token at which a source is refused, the files of a project, the types of a file, and the methods of an interface.
+//! The token at which a source is refused, the files of a project, the imports and the types of a file, and the methods of an interface.
 //! All else that is read of sources is told as text: `tests/bodies/faults.txt` has the places, `operators.txt`, `statements.txt` and `declarations.txt` the trees.
 
 ghost use Rattle.std.specs.Prelude.{◌≤◌, ◌<◌, ◌+◌, All, length};
@@ -6,7 +6,7 @@ ghost use Rattle.jv_lex.specs.Source.{IsPlaced};
 
 use jv_lex::{Token, lex};
 use jv_parse::{ParseFault, parse};
-use jv_tree::{Base, Ident, Member, Method, Names, Stmt, StmtKind, TypeDecl, Unit};
+use jv_tree::{Base, Ident, Import, Member, Method, Names, Stmt, StmtKind, TypeDecl, Unit};
 use std::alloc::{AllocError, Global};
 use std::fmt::Write;
 use std::test::Fail;
@@ -41,7 +41,7 @@ fn place_in(alloc: Global, source: &str) -> Result<Option<u32>, Fail>
 }
 
 /// A source and the number of the token that is refused, from 0.
-const NUMBERS: [(&str, u32); 12] = [
+const NUMBERS: [(&str, u32); 19] = [
     ("class A {", 3),
     ("class A { int = 1; }", 4),
     ("class A { void m() { a + b; } }", 11),
@@ -54,6 +54,13 @@ const NUMBERS: [(&str, u32); 12] = [
     ("interface I { default int x; }", 6),
     ("interface I { default int f() { return 1; }", 13),
     ("class default { }", 1),
+    ("import static A; class A {}", 3),
+    ("import static A", 3),
+    ("import static A B;", 3),
+    ("import static ;", 2),
+    ("import static static p.A;", 2),
+    ("import static p.;", 4),
+    ("import static *;", 2),
 ];
 
 /// The line and the column of a token, or nothing where there is none.
@@ -194,6 +201,48 @@ fn a_file_has_its_types(rt: HostRuntime) -> Result<(), Fail> {
     assert!(rt; tokens.len() < 1000);
     let found = types_in(rt.alloc(), source, &tokens)?;
     assert_eq!(rt; found.as_str(), "A B D ");
+    Ok(())
+}
+
+/// Adds an import: its words, its name and what stands behind it.
+fn add_import(text: &mut String, names: &Names, import: &Import) -> Result<(), AllocError> {
+    if import.is_static {
+        text.push_str("static ")?;
+    }
+    for ident in &import.name.ids {
+        add_ident(text, names, *ident)?;
+    }
+    if import.all {
+        text.push_str("* ")?;
+    }
+    text.push_str("; ")
+}
+
+/// The imports of a source.
+fn imports_in(alloc: Global, source: &str, tokens: &[Token]) -> Result<String, Fail>
+    requires placed { All (IsPlaced source.now) tokens.now }
+    requires few { length tokens.now ≤ 1048576 }
+{
+    let mut names = Names::new(alloc);
+    let unit = unit_of(alloc, source, tokens, &mut names)?;
+    let mut text = String::new(alloc);
+    for import in &unit.imports {
+        add_import(&mut text, &names, import)?;
+    }
+    Ok(text)
+}
+
+#[test]
+fn a_file_has_its_imports(rt: HostRuntime) -> Result<(), Fail> {
+    let source =
+        "import a.b; import a.*; import static a.b; import static a.*; import static a.b.c; import static a.b.*;";
+    let tokens = lex(rt.alloc(), source.as_bytes())?;
+    assert!(rt; tokens.len() < 1000);
+    let found = imports_in(rt.alloc(), source, &tokens)?;
+    assert_eq!(rt;
+        found.as_str(),
+        "a b ; a * ; static a b ; static a * ; static a b c ; static a b * ; "
+    );
     Ok(())
 }
 

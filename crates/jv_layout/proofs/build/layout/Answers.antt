@@ -26,15 +26,15 @@ file_rows-requires-clause-few c =
 
 pub from_rows-requires-clause-linked : goal.from_rows-requires-clause-linked
 from_rows-requires-clause-linked c =
-    subst IsLinked (sym (rows_same c.args.names.now c.args.files.now c.deref-3.result.now c.deref-5.result.now c.in_ok-named.named.paths.items _ _ _ _ c.deref-3.ensures.value c.deref-5.ensures.value c.in_ok-named.ensures.paths
-    c.in_ok-packages.ensures c.in_ok-files_packages.ensures c.in_ok-add_files.ensures.types c.in_ok-add_files.ensures.members)) (rows_linked c.args.names.now (map tree_of c.args.files.now) c.requires)
+    subst IsLinked (sym (rows_same c.args.names.now c.args.files.now c.deref-3.result.now c.deref-5.result.now c.in_ok-named.named.paths.items _ _ _ _ _ c.deref-3.ensures.value c.deref-5.ensures.value c.in_ok-named.ensures.paths
+    c.in_ok-packages.ensures c.in_ok-files_packages.ensures c.in_ok-add_files.ensures.types c.in_ok-add_files.ensures.members c.in_ok-statics.ensures)) (rows_linked c.args.names.now (map tree_of c.args.files.now) c.requires)
 
 pub from_rows-requires-clause-few : goal.from_rows-requires-clause-few
 from_rows-requires-clause-few c =
-    subst (λ l. scope_count l < 2 ^ 31) (sym (rows_same c.args.names.now c.args.files.now c.deref-3.result.now c.deref-5.result.now c.in_ok-named.named.paths.items _ _ _ _ c.deref-3.ensures.value c.deref-5.ensures.value c.in_ok-named.ensures.paths
-    c.in_ok-packages.ensures c.in_ok-files_packages.ensures c.in_ok-add_files.ensures.types c.in_ok-add_files.ensures.members)) (few_scopes c.args.names.now (map tree_of c.args.files.now) c.requires)
+    subst (λ l. scope_count l < 2 ^ 31) (sym (rows_same c.args.names.now c.args.files.now c.deref-3.result.now c.deref-5.result.now c.in_ok-named.named.paths.items _ _ _ _ _ c.deref-3.ensures.value c.deref-5.ensures.value c.in_ok-named.ensures.paths
+    c.in_ok-packages.ensures c.in_ok-files_packages.ensures c.in_ok-add_files.ensures.types c.in_ok-add_files.ensures.members c.in_ok-statics.ensures)) (few_scopes c.args.names.now (map tree_of c.args.files.now) c.requires)
 
 pub returns-clause-value : goal.returns-clause-value
 returns-clause-value c =
-    c.in_ok-from_rows.ensures ∙ rows_same c.args.names.now c.args.files.now c.deref-3.result.now c.deref-5.result.now c.in_ok-named.named.paths.items _ _ _ _ c.deref-3.ensures.value c.deref-5.ensures.value c.in_ok-named.ensures.paths
-    c.in_ok-packages.ensures c.in_ok-files_packages.ensures c.in_ok-add_files.ensures.types c.in_ok-add_files.ensures.members
+    c.in_ok-from_rows.ensures ∙ rows_same c.args.names.now c.args.files.now c.deref-3.result.now c.deref-5.result.now c.in_ok-named.named.paths.items _ _ _ _ _ c.deref-3.ensures.value c.deref-5.ensures.value c.in_ok-named.ensures.paths
+    c.in_ok-packages.ensures c.in_ok-files_packages.ensures c.in_ok-add_files.ensures.types c.in_ok-add_files.ensures.members c.in_ok-statics.ensures

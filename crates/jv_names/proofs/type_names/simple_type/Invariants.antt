@@ -4,8 +4,8 @@ use Rattle.sg_reading.specs.declared.stop.Stop.{Stop}
 use Rattle.sg_reading.specs.Stop.{Reads}
 use Rattle.jv_instance.specs.declared.pred.JavaPred.{JavaPred}
 use Rattle.jv_names.specs.declared.meaning.Meaning.{Meaning}
-use Rattle.jv_names.specs.Names.{simple_type}
 use Rattle.jv_names.specs.Replies.{reply_to}
+use Rattle.jv_names.specs.TypeNames.{simple_type}
 use Rattle.jv_names.proofs.type_names.simple_type.Given as goal
 
 -- what the rule comes to for the rest of the bodies, it comes to for all of them

@@ -1,7 +1,6 @@
 use Rattle.jv_names.specs.Replies.{reply_to}
 use Rattle.jv_tree.specs.DeclTree.{tree_of}
 use Rattle.jv_unit.specs.Kept.{folder_of}
-use Rattle.jv_unit.proofs.FileRules.{imports_here, imports_there}
 use Rattle.jv_unit.proofs.Steps.{file_unknown, file_written}
 use Rattle.jv_unit.proofs.file_rules.read_file.Goals as goal
 

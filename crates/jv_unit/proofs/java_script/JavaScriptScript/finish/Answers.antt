@@ -5,7 +5,7 @@ use Rattle.jv_names.specs.Replies.{reply_to}
 use Rattle.jv_unit.specs.declared.folder.Folder.{Folder}
 use Rattle.jv_unit.specs.Kept.{folder_of}
 use Rattle.jv_unit.specs.Plans.{unit_ending}
-use Rattle.jv_unit.specs.Progress.{AreFileImportsSoFar, IsReadSoFar, IsSoFar}
+use Rattle.jv_unit.specs.Progress.{AreFileImportsSoFar, AreFileStaticsSoFar, IsReadSoFar, IsSoFar}
 use Rattle.jv_unit.specs.Script.{ScriptOf}
 use Rattle.jv_unit.proofs.UnitRules.{ending_known}
 use Rattle.jv_unit.proofs.java_script.JavaScriptScript.finish.Goals as goal
@@ -21,4 +21,5 @@ invariant_of-self c = (
   subst (λ (w : Folder). IsReadSoFar (reply_to c.self.inside.replies) (folder_of w) (c.self.inside.unit - length w.layout.files) c.finish_unit.new.header) c.deref.ensures c.finish_unit.ensures.read,
   subst (λ (w : Folder). IsSoFar (reply_to c.self.inside.replies) (folder_of w) (c.self.inside.unit - length w.layout.files) c.finish_unit.new.progress.begun) c.deref.ensures c.finish_unit.ensures.so_far,
   subst (λ (w : Folder). AreFileImportsSoFar (reply_to c.self.inside.replies) (folder_of w) c.self.inside.unit c.finish_unit.new.imports) c.deref.ensures c.finish_unit.ensures.imports,
+  subst (λ (w : Folder). AreFileStaticsSoFar (reply_to c.self.inside.replies) (folder_of w) c.self.inside.unit c.finish_unit.new.statics) c.deref.ensures c.finish_unit.ensures.statics,
 )

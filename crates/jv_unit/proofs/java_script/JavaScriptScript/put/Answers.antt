@@ -5,7 +5,7 @@ use Rattle.jv_names.specs.Replies.{reply_to}
 use Rattle.jv_unit.specs.Kept.{folder_of}
 use Rattle.jv_unit.specs.Script.{ScriptOf}
 use Rattle.jv_unit.specs.Scripts.{PutsReply}
-use Rattle.jv_unit.proofs.FileRules.{file_imports_put}
+use Rattle.jv_unit.proofs.FileRules.{file_imports_put, file_statics_put}
 use Rattle.jv_unit.proofs.HeaderRules.{read_so_far_put}
 use Rattle.jv_unit.proofs.Putting.{adds_reply, puts_reply, so_far_put}
 use Rattle.jv_unit.proofs.java_script.JavaScriptScript.put.Goals as goal
@@ -33,4 +33,5 @@ invariant_of-self c =
       read_so_far_put c.self.inside.replies c.put.new.self c.args.query.now c.args.answer w t c.self.inside.header c.put.result adds c.put.ensures.err c.self.invariant.0,
       so_far_put c.self.inside.replies c.put.new.self c.args.query.now c.args.answer w t c.self.inside.progress.begun c.put.result adds c.put.ensures.err c.self.invariant.1,
       file_imports_put c.self.inside.replies c.put.new.self c.args.query.now c.args.answer w c.self.inside.unit c.self.inside.imports c.put.result adds c.put.ensures.err c.self.invariant.2,
+      file_statics_put c.self.inside.replies c.put.new.self c.args.query.now c.args.answer w c.self.inside.unit c.self.inside.statics c.put.result adds c.put.ensures.err c.self.invariant.3,
     )

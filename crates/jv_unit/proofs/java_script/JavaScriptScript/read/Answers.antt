@@ -21,4 +21,5 @@ invariant_of-self c = (
   subst (λ (w : Folder). IsReadSoFar (reply_to c.self.inside.replies) (folder_of w) (c.self.inside.unit - length w.layout.files) c.read_unit.new.progress) c.deref.ensures c.read_unit.ensures.so_far,
   c.self.invariant.1,
   subst (λ (w : Folder). AreFileImportsSoFar (reply_to c.self.inside.replies) (folder_of w) c.self.inside.unit c.read_unit.new.imports) c.deref.ensures c.read_unit.ensures.imports,
+  c.self.invariant.3,
 )
