@@ -48,6 +48,14 @@ last_astray l p q x s e m = and_false (fits l p) (fits l q) (may_step l (place_o
 pub last_fitting : (l : LayoutOf) (p q : PathOf) (x : Step) → q.start ≡ p.start → p.steps ≡ q.steps ++ x ∷ [] → may_step l (place_of l (end_of q.start q.steps)) x.label (place_of l x.to) ≡ true → fits l p ≡ fits l q
 last_fitting l p q x s e m = and_left (fits l p) (fits l q) (may_step l (place_of l (end_of q.start q.steps)) x.label (place_of l x.to)) (fits_last l p q x s e) m
 
+-- a path ends where its last step does
+pub end_last : (s : Scope) (ps qs : List Step) (x : Step) → ps ≡ qs ++ x ∷ [] → end_of s ps ≡ x.to
+end_last s ps qs x e = ap (end_of s) e ∙ along s qs
+  where
+    along : (t : Scope) (rs : List Step) → end_of t (rs ++ x ∷ []) ≡ x.to
+    along t [] = refl
+    along t (r ∷ rs) = along r.to rs
+
 -- what is asked of a last step, by the places that were looked up
 pub may_be : (l : LayoutOf) (q : PathOf) (x : Step) (e : Scope) (a b : Place) (k : ℕ) → e ≡ end_of q.start q.steps → a ≡ place_of l e → b ≡ place_of l x.to → k ≡ x.label → may_step l a k b ≡ may_step l (place_of l (end_of q.start q.steps)) x.label (place_of l x.to)
 may_be l q x e a b k he ha hb hk =

@@ -86,14 +86,16 @@ impl Layout {
         ensures { result ≡ fits self.now p.now }
     {
         let mut at = p.copy();
+        let mut to = self.place(at.end());
         while at.len() > known {
             if let Some((before, step)) = at.split_last() {
-                let from = self.place(before.end());
-                let to = self.place(step.to);
+                let last = before.end();
+                let from = self.place(last);
                 if !self.may_step(from, step.label.number(), to) {
                     return false;
                 }
                 at = before;
+                to = from;
             }
         }
         true

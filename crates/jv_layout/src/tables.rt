@@ -223,25 +223,31 @@ impl Layout {
         ensures few { scope_count self.now < 2 ^ 31 }
     {
         let first_file = self.first_file();
-        let first_type = self.first_type();
-        let first_member = self.first_member();
-        let first_signature = self.first_signature();
         if n < 1 {
             Place::Root
         } else if n < 2 {
             Place::Unnamed
         } else if n < first_file {
             Place::Package(n - 2)
-        } else if n < first_type {
-            Place::File(n - first_file)
-        } else if n < first_member {
-            Place::Ty(n - first_type)
-        } else if n < first_signature {
-            Place::Member(n - first_member)
-        } else if n < self.scope_count() {
-            Place::Signature(n - first_signature)
         } else {
-            Place::Outside
+            let first_type = first_file + self.files.len() as u32;
+            if n < first_type {
+                Place::File(n - first_file)
+            } else {
+                let first_member = first_type + self.types.len() as u32;
+                if n < first_member {
+                    Place::Ty(n - first_type)
+                } else {
+                    let first_signature = first_member + self.members.len() as u32;
+                    if n < first_signature {
+                        Place::Member(n - first_member)
+                    } else if n < first_signature + self.members.len() as u32 {
+                        Place::Signature(n - first_signature)
+                    } else {
+                        Place::Outside
+                    }
+                }
+            }
         }
     }
 }

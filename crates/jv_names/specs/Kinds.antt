@@ -60,6 +60,13 @@ pub record IsKind (java : JavaKind) (k : KindOf) : Type 0 where
   pub words : k.expr ≡ java.words
   pub order : (a b : Mark) → precedes k.order a b ≡ mark_before java.labels a b
 
+-- as many kinds, and each is the one at its place
+abbrev pub AllAre : List JavaKind → List KindOf → Type 0
+AllAre [] [] = Unit {0}
+AllAre [] (k ∷ ks) = ⊥
+AllAre (j ∷ js) [] = ⊥
+AllAre (j ∷ js) (k ∷ ks) = IsKind j k × AllAre js ks
+
 -- what a query asks of a graph
 abbrev pub asked_by : Query JavaPred → Asked JavaDatum
 asked_by q = record { start = q.start; expr = (kind_at q.kind).words; order = mark_before (kind_at q.kind).labels; wants = is_wanted q.pred; same = λ a b. name_of a == name_of b }

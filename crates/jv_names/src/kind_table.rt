@@ -1,10 +1,10 @@
 //! The table of the kinds of queries.
 
-ghost use Rattle.std.specs.Prelude.{◌≡◌, ◌≢◌, ◌<◌, [], ◌∷◌, IfOk};
+ghost use Rattle.std.specs.Prelude.{◌≡◌, ◌≢◌, ◌<◌, [], ◌∷◌, map, take, IfOk, OnOk};
 ghost use Rattle.sg_expr.specs.Tree.{one_label, in_turn, repeated};
 ghost use Rattle.sg_query.specs.Query.{value_of_kind};
 ghost use Rattle.jv_instance.specs.declared.labels.TheConstants.{SELF, SIMP, PKGOF, ODI, EXT, METH};
-ghost use Rattle.jv_names.specs.Kinds.{AreKinds, IsKind, above_or_own, of_file};
+ghost use Rattle.jv_names.specs.Kinds.{AllAre, AreKinds, IsKind, above_or_own, kinds, of_file};
 
 use crate::orders::{file_order, in_order, no_order};
 use crate::words::{above_or_own, in_turn, of_file, one_label, repeated};
@@ -66,21 +66,38 @@ fn all_supertypes(alloc: Global) -> Result<Kind, AllocError>
     })
 }
 
+/// Adds the kinds that lead to packages and types, which are the first four.
+fn add_first_kinds(alloc: Global, found: &mut Vec<Kind>) -> Result<(), AllocError>
+    requires { found.old.items ≡ [] }
+    ensures { OnOk result (AllAre (take 4 kinds) (map value_of_kind found.new.items)) }
+{
+    found.push(direct(labels::PKG))?;
+    found.push(direct(labels::TYPE))?;
+    found.push(own_first(alloc, labels::TYPE)?)?;
+    found.push(seen_by_file(alloc)?)?;
+    Ok(())
+}
+
+/// Adds the kinds that lead to members, signatures and supertypes, which are those behind the first four.
+fn add_further_kinds(alloc: Global, found: &mut Vec<Kind>) -> Result<(), AllocError>
+    requires { AllAre (take 4 kinds) (map value_of_kind found.old.items) }
+    ensures { OnOk result (AllAre kinds (map value_of_kind found.new.items)) }
+{
+    found.push(own_first(alloc, labels::FIELD)?)?;
+    found.push(own_first(alloc, labels::METH)?)?;
+    found.push(methods_above(alloc)?)?;
+    found.push(direct(labels::CTOR))?;
+    found.push(direct(labels::SIG))?;
+    found.push(all_supertypes(alloc)?)?;
+    Ok(())
+}
+
 /// The table of all kinds, by their numbers. It takes a bounded time and amount of memory.
 pub fn java_kinds(alloc: Global) -> Result<KindTable, AllocError>
     ensures { IfOk result AreKinds }
 {
-    let kinds = vec![in alloc;
-        direct(labels::PKG),
-        direct(labels::TYPE),
-        own_first(alloc, labels::TYPE)?,
-        seen_by_file(alloc)?,
-        own_first(alloc, labels::FIELD)?,
-        own_first(alloc, labels::METH)?,
-        methods_above(alloc)?,
-        direct(labels::CTOR),
-        direct(labels::SIG),
-        all_supertypes(alloc)?,
-    ]?;
-    KindTable::new(alloc, kinds)
+    let mut found = Vec::new(alloc);
+    add_first_kinds(alloc, &mut found)?;
+    add_further_kinds(alloc, &mut found)?;
+    KindTable::new(alloc, found)
 }
